@@ -1,0 +1,6 @@
+pub mod Tests
+pub mod Lists
+pub mod Bits
+pub mod Lengths
+pub mod NoSecond
+pub mod Starred

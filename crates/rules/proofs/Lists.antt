@@ -1,0 +1,127 @@
+-- Lists: parts of a row of bytes, and a row in which a stretch was replaced.
+--
+--   length-splice          a splice keeps the length
+--   splice-before splice-in splice-after    what stands before, in and after the stretch
+--   length-part getD-part  the length of a part, and what stands in it
+--   part-ext               two rows that agree on a stretch have the same part there
+--   part-apart part-there  a part apart from the stretch stays, and the stretch reads back
+--   splice-part            a stretch replaced by itself
+--   part-none part-cons    a part of no bytes, and its first byte
+--   part-head              the part of a row that starts with the row v
+--   same-bytes same-true   `sameBytes` says that two rows are equal
+--
+-- Assumes nothing.
+use mathlib.Core.Path.{_≡_, refl, ap, ap₂, sym, _∙_}
+use mathlib.Core.Logic.{_⊎_, inl, inr, ⊎-elim}
+use mathlib.Core.Bool.{Bool, true, false, _&&_, true≢false, false≢true}
+use mathlib.Core.List.{List, [], _∷_, _++_}
+use Prim.Native.Nat.{ℕ, zero, suc, _+_, _-_, _≤_, _<_}
+use native.Mathlib.Omega.{arith}
+use native.Mathlib.Numerals.{add-one}
+use lib.Dec.{eqb, eqb-refl}
+use lib.ListN.{length, take, drop, getD, length-append, length-take, length-drop, List·getD-append}
+use lib.Seq.{length-take-le, getD-append-add, getD-take, getD-drop, ext-getD, take-at, drop-at, drop-cons}
+use borrow.Author.Tests.{eqb-true, eq-eqb}
+use Rattle.rules.specs.Bytes.{sameBytes, part, splice}
+use Rattle.rules.proofs.Tests.{and-left, and-right, and-both, by-order}
+
+-- ---- a stretch replaced
+
+module _ (s v : List ℕ) (at : ℕ) (fits : at + length v ≤ length s) where
+  pub length-splice : length (splice s at v) ≡ length s
+  unfolding splice
+  length-splice = simp (length-append, length-take, length-drop) (omega arith)
+
+  pub splice-before : (j : ℕ) → j < at → getD (splice s at v) j 0 ≡ getD s j 0
+  unfolding splice
+  splice-before j h =
+      List·getD-append (take at s) _ 0 j (simp length-take (omega arith)) ∙ getD-take at s j 0 h
+
+  pub splice-in : (k : ℕ) → k < length v → getD (splice s at v) (at + k) 0 ≡ getD v k 0
+  unfolding splice
+  splice-in k h =
+      ap (λ (n : ℕ). getD (take at s ++ (v ++ drop (at + length v) s)) (n + k) 0) (sym (length-take-le at s (omega arith)))
+      ∙ getD-append-add (take at s) _ k 0 ∙ List·getD-append v _ 0 k h
+
+  pub splice-after : (j : ℕ) → at + length v ≤ j → getD (splice s at v) j 0 ≡ getD s j 0
+  unfolding splice
+  splice-after j h =
+      let m : ℕ = j - (at + length v) in
+      let e : j ≡ length (take at s) + (length v + m) = rw (length-take-le at s (omega arith)) (omega arith) in
+      ap (λ (n : ℕ). getD (take at s ++ (v ++ drop (at + length v) s)) n 0) e
+      ∙ getD-append-add (take at s) _ (length v + m) 0
+      ∙ getD-append-add v _ m 0
+      ∙ getD-drop (at + length v) s m 0
+      ∙ ap (λ (n : ℕ). getD s n 0) (omega arith)
+
+-- ---- parts
+
+module _ (s : List ℕ) (at n : ℕ) (fits : at + n ≤ length s) where
+  pub length-part : length (part s at n) ≡ n
+  unfolding part
+  length-part = simp (length-take, length-drop) (omega arith)
+
+  pub getD-part : (i : ℕ) → i < n → getD (part s at n) i 0 ≡ getD s (at + i) 0
+  unfolding part
+  getD-part i h = rw (getD-take, getD-drop)
+
+pub part-ext : (s t : List ℕ) (at n : ℕ) → at + n ≤ length s → at + n ≤ length t
+    → ((j : ℕ) → at ≤ j → j < at + n → getD s j 0 ≡ getD t j 0) → part s at n ≡ part t at n
+part-ext s t at n hs ht same =
+    ext-getD 0 (part s at n) (part t at n) (length-part s at n hs ∙ sym (length-part t at n ht))
+    λ i h. let hi : i < n = rw (length-part s at n hs) at h in
+    getD-part s at n hs i hi ∙ same (at + i) (omega arith) (omega arith) ∙ sym (getD-part t at n ht i hi)
+
+module _ (s v : List ℕ) (at : ℕ) (fits : at + length v ≤ length s) where
+  pub part-apart : (a n : ℕ) → a + n ≤ length s → (a + n ≤ at) ⊎ (at + length v ≤ a) → part (splice s at v) a n ≡ part s a n
+  part-apart a n h o =
+      part-ext (splice s at v) s a n (rw (length-splice s v at fits) h) h
+      λ j p q. ⊎-elim (λ u. splice-before s v at fits j (omega arith)) (λ u. splice-after s v at fits j (omega arith)) o
+
+  pub part-there : part (splice s at v) at (length v) ≡ v
+  part-there =
+      let f : at + length v ≤ length (splice s at v) = rw (length-splice s v at fits) fits in
+      ext-getD 0 (part (splice s at v) at (length v)) v (length-part (splice s at v) at (length v) f)
+      λ k h. let hk : k < length v = rw (length-part (splice s at v) at (length v) f) at h in
+      getD-part (splice s at v) at (length v) f k hk ∙ splice-in s v at fits k hk
+
+pub part-none : (s : List ℕ) (at : ℕ) → part s at 0 ≡ []
+unfolding part
+part-none s at = refl
+
+pub part-cons : (s : List ℕ) (at n : ℕ) → at < length s → part s at (suc n) ≡ getD s at 0 ∷ part s (at + 1) n
+unfolding part
+part-cons s at n h = rw (drop-cons s at 0 h, add-one at)
+
+pub part-head : (b v a : List ℕ) → part (b ++ (v ++ a)) (length b) (length v) ≡ v
+unfolding part
+part-head b v a = ap (take (length v)) (drop-at b (v ++ a) (length b) refl) ∙ take-at v a (length v) refl
+
+-- what stands there already changes nothing
+pub splice-part : (s : List ℕ) (at n : ℕ) → at + n ≤ length s → splice s at (part s at n) ≡ s
+splice-part s at n fits =
+    let v : List ℕ = part s at n in
+    let lv : length v ≡ n = length-part s at n fits in
+    let f : at + length v ≤ length s = omega arith in
+    ext-getD 0 (splice s at v) s (length-splice s v at f)
+    λ j h. by-order j at (λ l. splice-before s v at f j l)
+    (λ l. by-order j (at + n)
+    (λ m. let e : at + (j - at) ≡ j = omega arith in
+    ap (λ (i : ℕ). getD (splice s at v) i 0) (sym e)
+    ∙ splice-in s v at f (j - at) (omega arith)
+    ∙ getD-part s at n fits (j - at) (omega arith)
+    ∙ ap (λ (i : ℕ). getD s i 0) e)
+    (λ m. splice-after s v at f j (omega arith)))
+
+-- ---- the same row
+
+pub same-bytes : (a b : List ℕ) → sameBytes a b ≡ true → a ≡ b
+same-bytes [] [] e = refl
+same-bytes [] (y ∷ ys) e = absurd (false≢true e)
+same-bytes (x ∷ xs) [] e = absurd (false≢true e)
+same-bytes (x ∷ xs) (y ∷ ys) e =
+    ap₂ {C = List ℕ} (λ z zs. z ∷ zs) (eqb-true x y (and-left (eqb x y) _ e)) (same-bytes xs ys (and-right (eqb x y) _ e))
+
+pub same-true : (a : List ℕ) → sameBytes a a ≡ true
+same-true [] = refl
+same-true (x ∷ xs) = and-both (eqb x x) _ (eq-eqb x x refl) (same-true xs)

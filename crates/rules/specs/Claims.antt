@@ -1,0 +1,8 @@
+-- Claims: what is claimed of the definitions, each claim a statement that can be read without its proof. The proofs are in proofs/.
+--
+--   Starred       the starred cases of 01, the five wrong cards and the three errors that look harmless: one table
+--   Lengths       the length rule, over the number of length bytes
+--   NoSecond      no second outcome fits a promise of our form
+pub mod Starred
+pub mod Lengths
+pub mod NoSecond

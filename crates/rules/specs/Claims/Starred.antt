@@ -1,0 +1,405 @@
+-- Starred: the starred cases of 01 ("Checked examples") as one table over the definitions: true calls, from power-on, at the true layout.
+-- With them stand the example of 01's program, rows that each of the five wrong cards ("Promises that leave no choice") and each of the three
+-- "Errors that look harmless" would fail, and a row for each further group of rules.
+--
+--   hex n x              the number x as n bytes
+--   fixed                the fixed card of 01's program
+--   keyed                the same with key algorithms 07, 11, 11, 07
+--   Line, k ⇒ t          a call, and the test that its outcome must pass
+--   plays s ls           the lines ls on a card with the store s, powered on by contact
+--   sw · bytes · sized · job · refused    tests of an outcome
+--   storeIs              a test of the store after a call
+--   table                the table: each row must be true
+--   Holds                the claim
+--
+-- Assumes nothing.
+use mathlib.Core.Path.{_≡_}
+use mathlib.Core.Bool.{Bool, true, false, not, _&&_}
+use mathlib.Core.List.{List, [], _∷_, _++_}
+use Prim.Native.Nat.{ℕ, zero, suc, _+_, _/_, _%_}
+use lib.Dec.{eqb}
+use lib.ListN.{length, take, drop, replicate}
+use Rattle.rules.specs.declared.Chain.the-variants.{Open}
+use Rattle.rules.specs.declared.Rest.the-variants.{Gone}
+use Rattle.rules.specs.declared.Session.{Session}
+use Rattle.rules.specs.declared.Refusal.{Refusal}
+use Rattle.rules.specs.declared.Answer.{Answer}
+use Rattle.rules.specs.declared.Answer.the-variants.{PoweredOn, Response, JobOpened, Refused}
+use Rattle.rules.specs.Bytes.{allTrue, sameBytes, zeros, word}
+use Rattle.rules.specs.Ber.{berLength}
+use Rattle.rules.specs.Reference.{pinForm}
+use Rattle.rules.specs.Store.{storeSize, workSize, putObject}
+use Rattle.rules.specs.Session.{State, state, cleared, holding}
+use Rattle.rules.specs.Calls.{Call, powers, sends, finishes, refusalNumber, Outcome, Result, call}
+use Rattle.rules.specs.Runs.{leaves}
+
+infix 80 _⇒_
+-- ---- bytes by their hex digits
+
+abbrev pub hexOn : List ℕ → ℕ → ℕ → List ℕ
+hexOn l zero x = l
+hexOn l (suc n) x = hexOn (x % 256 ∷ l) n (x / 256)
+
+abbrev pub hex : ℕ → ℕ → List ℕ
+hex n x = hexOn [] n x
+
+-- ---- cards
+
+-- PIN 123456, PUK 12345678, limits 3, all tries left, no keys or objects
+unfoldable pub fixed : List ℕ
+fixed = hex 32 0x4F50430001000000_0303313233343536FFFF_03033132333435363738_00000000 ++ zeros 33368
+
+unfoldable pub keyed : List ℕ
+keyed = hex 32 0x4F50430001000000_0303313233343536FFFF_03033132333435363738_07111107 ++ zeros 33368
+
+-- limit 15, as far as X goes
+unfoldable pub patient : List ℕ
+patient = hex 32 0x4F50430001000000_0F0F313233343536FFFF_03033132333435363738_00000000 ++ zeros 33368
+
+-- ---- lines
+
+pub data Line : Type 0 where
+  _⇒_ : Call → (Outcome → Bool) → Line
+
+unfoldable pub follows : State → List Line → Bool
+follows st [] = true
+follows st ((k ⇒ t) ∷ ls) = let r = call st k in let b = follows (leaves r) ls in t (r .outcome) && b
+
+-- whatever the work area held before
+unfoldable pub plays : List ℕ → List Line → Bool
+plays s ls = follows (leaves (call (state s (replicate workSize 0xAA) (cleared true)) (powers false))) ls
+
+-- without contact
+unfoldable pub playsAir : List ℕ → List Line → Bool
+playsAir s ls = follows (leaves (call (state s (replicate workSize 0xAA) (cleared false)) (powers true))) ls
+
+-- ---- tests
+
+abbrev pub respondsWith : (List ℕ → Bool) → Answer → List ℕ → Bool
+respondsWith t PoweredOn b = false
+respondsWith t (Response n) b = t (take n b)
+respondsWith t (JobOpened key alg n) b = false
+respondsWith t (Refused r) b = false
+
+abbrev pub opensWith : ℕ → ℕ → List ℕ → Answer → List ℕ → Bool
+opensWith k a d PoweredOn b = false
+opensWith k a d (Response n) b = false
+opensWith k a d (JobOpened key alg n) b = eqb k key && eqb a alg && sameBytes d (take n b)
+opensWith k a d (Refused r) b = false
+
+abbrev pub refusesWith : ℕ → Answer → Bool
+refusesWith n PoweredOn = false
+refusesWith n (Response m) = false
+refusesWith n (JobOpened key alg m) = false
+refusesWith n (Refused r) = eqb n (refusalNumber r)
+
+-- just these bytes; that many data bytes and this status word; this status word alone
+unfoldable pub bytes : List ℕ → Outcome → Bool
+bytes b o = respondsWith (sameBytes b) (o .reply .answer) (o .resp)
+
+unfoldable pub sized : ℕ → ℕ → Outcome → Bool
+sized n x o = respondsWith (λ l. eqb (length l) (n + 2) && sameBytes (drop n l) (word x)) (o .reply .answer) (o .resp)
+
+unfoldable pub sw : ℕ → Outcome → Bool
+sw x o = bytes (word x) o
+
+-- a job with this key, this algorithm and these data
+unfoldable pub job : ℕ → ℕ → List ℕ → Outcome → Bool
+job k a d o = opensWith k a d (o .reply .answer) (o .resp)
+
+unfoldable pub refused : ℕ → Outcome → Bool
+refused n o = refusesWith n (o .reply .answer)
+
+unfoldable pub storeIs : List ℕ → Outcome → Bool
+storeIs s o = sameBytes s (o .store)
+
+unfoldable pub workIs : List ℕ → Outcome → Bool
+workIs w o = sameBytes w (o .work)
+
+unfoldable pub both : (Outcome → Bool) → (Outcome → Bool) → Outcome → Bool
+both t u o = t o && u o
+
+-- ---- calls: each is lent a response buffer of 258 bytes
+
+abbrev pub tell : ℕ → ℕ → Call
+tell n x = sends (replicate 258 0xBB) (hex n x)
+
+abbrev pub done : ℕ → ℕ → Call
+done n x = finishes (replicate 258 0xBB) false (hex n x)
+
+abbrev pub failed : Call
+failed = finishes (replicate 258 0xBB) true []
+
+-- VERIFY with the right PIN, a wrong one, one of five digits, and without data
+abbrev pub right : Call
+right = tell 13 0x0020008008_313233343536FFFF
+
+abbrev pub wrong : Call
+wrong = tell 13 0x0020008008_313233343537FFFF
+
+abbrev pub five : Call
+five = tell 13 0x0020008008_3132333435FFFFFF
+
+abbrev pub empty : Call
+empty = tell 4 0x00200080
+
+abbrev pub select : Call
+select = tell 14 0x00A4040009A00000030800001000
+
+abbrev pub selected : Outcome → Bool
+selected = bytes (hex 26 0x61164F0BA00000030800001000010079074F05A000000308_9000)
+
+-- GET DATA of the capability container and of the printed information, and GET RESPONSE
+abbrev pub container : Call
+container = tell 11 0x00CB3FFF055C035FC10700
+
+abbrev pub printed : Call
+printed = tell 11 0x00CB3FFF055C035FC10900
+
+abbrev pub more : Call
+more = tell 5 0x00C0000000
+
+-- the administrator's login: a challenge is asked for, made by the host, and answered
+abbrev pub asks : Call
+asks = tell 10 0x0087009B04_7C028100_00
+
+abbrev pub makes : Call
+makes = done 16 0x0102030405060708_1112131415161718
+
+abbrev pub reply : Call
+reply = tell 17 0x0087009B0C_7C0A82081112131415161718
+
+abbrev pub challenge : Outcome → Bool
+challenge = bytes (hex 14 0x7C0A81080102030405060708_9000)
+
+unfoldable pub asAdmin : List Line → List Line
+asAdmin ls = asks ⇒ job 0x9B 0x00 [] ∷ makes ⇒ challenge ∷ reply ⇒ sw 0x9000 ∷ ls
+
+-- PUT DATA of the capability container 08 09 in two pieces
+abbrev pub first : Call
+first = tell 11 0x10DB3FFF06_5C035FC10753
+
+abbrev pub last : Call
+last = tell 8 0x00DB3FFF03_020809
+
+-- ---- the starred cases
+
+abbrev pub starredCases : List Bool
+starredCases =
+    -- PIN form
+    pinForm (hex 8 0x313233343536FFFF)
+    ∷ pinForm (hex 8 0x3132333435363738)
+    ∷ not (pinForm (hex 8 0x3132333435FFFFFF))
+    ∷ not (pinForm (hex 8 0x313233343536FF37))
+    -- limit 3
+    ∷ plays fixed (wrong ⇒ sw 0x63C2 ∷ wrong ⇒ sw 0x63C1 ∷ five ⇒ sw 0x6A80 ∷ wrong ⇒ sw 0x63C0 ∷ right ⇒ sw 0x6983 ∷ empty ⇒ sw 0x63C0 ∷ [])
+    -- contents 252, 253, 254
+    ∷ plays (putObject fixed 0 (replicate 252 7)) (container ⇒ sized 255 0x9000 ∷ more ⇒ sw 0x6985 ∷ [])
+    ∷ plays (putObject fixed 0 (replicate 253 7)) (container ⇒ sized 256 0x9000 ∷ more ⇒ sw 0x6985 ∷ [])
+    ∷ plays (putObject fixed 0 (replicate 254 7)) (container ⇒ sized 256 0x6101 ∷ more ⇒ bytes (hex 3 0x079000) ∷ more ⇒ sw 0x6985 ∷ [])
+    -- PUT DATA piece, SELECT, last piece
+    ∷ plays fixed (asAdmin (first ⇒ sw 0x9000 ∷ select ⇒ selected ∷ last ⇒ both (sw 0x6A80) (storeIs fixed) ∷ []))
+    -- challenge, VERIFY, reply
+    ∷ plays fixed (asks ⇒ job 0x9B 0x00 [] ∷ makes ⇒ challenge ∷ right ⇒ sw 0x9000 ∷ reply ⇒ sw 0x6985 ∷ [])
+    -- reply sent in two pieces
+    ∷ plays fixed (asks ⇒ job 0x9B 0x00 [] ∷ makes ⇒ challenge ∷ tell 9 0x1087009B04_7C0A8208 ⇒ sw 0x9000 ∷ tell 13 0x0087009B08_1112131415161718 ⇒ sw 0x6985 ∷ [])
+    -- printed information, empty or full, PIN not given
+    ∷ plays fixed (printed ⇒ sw 0x6982 ∷ [])
+    ∷ plays (putObject fixed 9 (replicate 512 7)) (printed ⇒ sw 0x6982 ∷ [])
+    -- lengths 127, 128, 255, 256
+    ∷ sameBytes (length (berLength 127) ∷ length (berLength 128) ∷ length (berLength 255) ∷ length (berLength 256) ∷ []) (1 ∷ 2 ∷ 2 ∷ 3 ∷ [])
+    -- the example of 01's program
+    ∷ plays fixed (select ⇒ selected ∷ empty ⇒ sw 0x63C3 ∷ wrong ⇒ sw 0x63C2 ∷ right ⇒ sw 0x9000 ∷ printed ⇒ sw 0x6A82 ∷ [])
+    ∷ []
+
+-- ---- rows that the five wrong cards would fail: always 6700; always 9000; no try counted down; a made-up X; stored at the first piece
+
+unfoldable pub oneTryFewer : List ℕ
+oneTryFewer = hex 32 0x4F50430001000000_0302313233343536FFFF_03033132333435363738_00000000 ++ zeros 33368
+
+abbrev pub wrongCards : List Bool
+wrongCards =
+    plays fixed (select ⇒ selected ∷ [])
+    ∷ plays fixed (tell 3 0x00A404 ⇒ sw 0x6700 ∷ empty ⇒ sw 0x63C3 ∷ [])
+    ∷ plays fixed (wrong ⇒ both (sw 0x63C2) (storeIs oneTryFewer) ∷ [])
+    ∷ plays patient (empty ⇒ sw 0x63CF ∷ wrong ⇒ sw 0x63CE ∷ empty ⇒ sw 0x63CE ∷ right ⇒ both (sw 0x9000) (storeIs patient) ∷ [])
+    ∷ plays fixed (asAdmin (first ⇒ both (sw 0x9000) (storeIs fixed)
+    ∷ last ⇒ both (both (sw 0x9000) (workIs (zeros workSize))) (storeIs (putObject fixed 0 (hex 2 0x0809)))
+    ∷ container ⇒ bytes (hex 6 0x530208099000) ∷ []))
+    ∷ []
+
+-- ---- rows that the three errors would fail: the object looked for before the access condition; a try counted, or a comparison made, for a
+-- PIN without PIN form; the PIN status restored after RESET RETRY COUNTER (or lost by it)
+
+abbrev pub resets : Call
+resets = tell 21 0x002C008010_3132333435363738_313233343536FFFF
+
+abbrev pub harmlessErrors : List Bool
+harmlessErrors =
+    plays fixed (printed ⇒ sw 0x6982 ∷ right ⇒ sw 0x9000 ∷ printed ⇒ sw 0x6A82 ∷ [])
+    ∷ plays fixed (five ⇒ both (sw 0x6A80) (storeIs fixed) ∷ empty ⇒ sw 0x63C3 ∷ [])
+    ∷ plays fixed (resets ⇒ sw 0x9000 ∷ empty ⇒ sw 0x63C3 ∷ right ⇒ sw 0x9000 ∷ resets ⇒ sw 0x9000 ∷ empty ⇒ sw 0x9000 ∷ [])
+    ∷ []
+
+-- ---- further rules
+
+-- checks 1 to 5, in their order
+abbrev pub checks : List Bool
+checks =
+    plays fixed (tell 6 0x00A404000000 ⇒ sw 0x6700
+    ∷ tell 7 0x00A40400030000 ⇒ sw 0x6700
+    ∷ sends (replicate 258 0xBB) (hex 5 0x00DB3FFFFF ++ replicate 257 0) ⇒ sw 0x6700
+    ∷ sends (replicate 258 0xBB) (hex 5 0x00DB3FFFFF ++ replicate 256 0) ⇒ sw 0x6982
+    ∷ tell 4 0x0CFF0000 ⇒ sw 0x6882
+    ∷ tell 4 0x1C200080 ⇒ sw 0x6882
+    ∷ tell 4 0x80FF0000 ⇒ sw 0x6E00
+    ∷ tell 4 0x10FF0000 ⇒ sw 0x6D00
+    ∷ tell 4 0x10200080 ⇒ sw 0x6884 ∷ [])
+    ∷ playsAir fixed (tell 4 0x10200080 ⇒ sw 0x6884
+    ∷ empty ⇒ sw 0x6A81
+    ∷ tell 4 0x00240080 ⇒ sw 0x6A81
+    ∷ resets ⇒ sw 0x6A81
+    ∷ tell 4 0x10DB3FFF ⇒ sw 0x6A81
+    ∷ tell 4 0x00870000 ⇒ sw 0x6A86 ∷ [])
+    ∷ []
+
+-- SELECT, GET DATA and GET RESPONSE
+abbrev pub reading : List Bool
+reading =
+    plays fixed (tell 4 0x00A40000 ⇒ sw 0x6A86
+    ∷ tell 10 0x00A4040005A000000308 ⇒ sw 0x6A82
+    ∷ tell 16 0x00A404000BA000000308000010000100 ⇒ selected
+    ∷ tell 15 0x00A4040009A0000003080000100005 ⇒ bytes (hex 7 0x61164F0BA0_6113)
+    ∷ tell 5 0x00C0000003 ⇒ bytes (hex 5 0x000003_6110)
+    ∷ more ⇒ both (bytes (hex 18 0x0800001000010079074F05A000000308_9000)) (workIs (zeros workSize))
+    ∷ more ⇒ sw 0x6985 ∷ [])
+    ∷ plays (putObject fixed 1 (replicate 700 7)) (tell 11 0x00CB3FFF055C035FC10200 ⇒ sized 256 0x6100
+    ∷ more ⇒ sized 256 0x61C0
+    ∷ tell 4 0x00C00001 ⇒ both (sw 0x6A86) (workIs (zeros workSize))
+    ∷ more ⇒ sw 0x6985 ∷ [])
+    ∷ plays fixed (tell 4 0x00CB3F00 ⇒ sw 0x6A86
+    ∷ tell 9 0x00CB3FFF045C027F61 ⇒ sw 0x6A80
+    ∷ tell 11 0x00CB3FFF06_5C035FC10200 ⇒ sw 0x6A80
+    ∷ tell 11 0x00CB3FFF06_5C81035FC102 ⇒ sw 0x6A80
+    ∷ tell 10 0x00CB3FFF05_5C035FC104 ⇒ sw 0x6A82
+    ∷ tell 10 0x00CB3FFF05_5C0300007E ⇒ sw 0x6A82
+    ∷ tell 8 0x00CB3FFF03_5C017E ⇒ sw 0x6A82
+    ∷ tell 6 0x00C000000100 ⇒ sw 0x6700 ∷ [])
+    ∷ playsAir (putObject fixed 0 (hex 1 0x55)) (container ⇒ sw 0x6982
+    ∷ tell 10 0x00CB3FFF05_5C035FC104 ⇒ sw 0x6A82
+    ∷ tell 10 0x00CB3FFF05_5C035FC102 ⇒ sw 0x6A82 ∷ [])
+    ∷ []
+
+-- VERIFY, CHANGE REFERENCE DATA and RESET RETRY COUNTER: tries counted apart, what each does to the status
+abbrev pub references : List Bool
+references =
+    plays fixed (tell 4 0x00200180 ⇒ sw 0x6A86
+    ∷ tell 4 0x00200000 ⇒ sw 0x6A88
+    ∷ right ⇒ sw 0x9000
+    ∷ tell 6 0x0020FF800131 ⇒ sw 0x6A80
+    ∷ empty ⇒ sw 0x9000
+    ∷ tell 4 0x0020FF80 ⇒ sw 0x9000
+    ∷ empty ⇒ sw 0x63C3 ∷ [])
+    ∷ plays fixed (tell 4 0x00240180 ⇒ sw 0x6A86
+    ∷ tell 4 0x00240082 ⇒ sw 0x6A81
+    ∷ tell 20 0x002400800F_313233343536FFFF313233343536FF ⇒ sw 0x6A80
+    ∷ tell 21 0x0024008010_313233343537FFFF_3132333435FFFFFF ⇒ sw 0x6A80
+    ∷ tell 21 0x0024008010_313233343537FFFF_393939393939FFFF ⇒ sw 0x63C2
+    ∷ tell 21 0x0024008010_313233343536FFFF_393939393939FFFF ⇒ sw 0x9000
+    ∷ empty ⇒ sw 0x9000
+    ∷ right ⇒ sw 0x63C2
+    ∷ tell 13 0x0020008008_393939393939FFFF ⇒ sw 0x9000 ∷ [])
+    ∷ plays fixed (right ⇒ sw 0x9000
+    ∷ tell 21 0x0024008110_00000000000000FF_FFFFFFFFFFFFFFFF ⇒ sw 0x63C2
+    ∷ empty ⇒ sw 0x9000
+    ∷ tell 21 0x0024008110_3132333435363738_00000000000000FF ⇒ sw 0x9000
+    ∷ resets ⇒ sw 0x63C2
+    ∷ empty ⇒ sw 0x63C3
+    ∷ tell 21 0x002C008010_00000000000000FF_3132333435FFFFFF ⇒ sw 0x6A80
+    ∷ tell 21 0x002C008010_00000000000000FF_393939393939FFFF ⇒ sw 0x9000
+    ∷ tell 13 0x0020008008_393939393939FFFF ⇒ sw 0x9000 ∷ [])
+    ∷ plays fixed (tell 4 0x002C0180 ⇒ sw 0x6A86
+    ∷ tell 4 0x002C0081 ⇒ sw 0x6A81
+    ∷ wrong ⇒ sw 0x63C2 ∷ wrong ⇒ sw 0x63C1 ∷ wrong ⇒ sw 0x63C0
+    ∷ tell 4 0x00240080 ⇒ sw 0x6983
+    ∷ tell 4 0x00240081 ⇒ sw 0x6A80
+    ∷ resets ⇒ both (sw 0x9000) (storeIs fixed) ∷ [])
+    ∷ []
+
+-- ---- GENERAL AUTHENTICATE and PUT DATA
+
+-- 266 data bytes for an RSA key, in two pieces
+abbrev pub rsaFirst : Call
+rsaFirst = sends (replicate 258 0xBB) (hex 5 0x1087079AFF ++ (hex 10 0x7C8201068200_81820100 ++ replicate 245 0x5A))
+
+abbrev pub rsaLast : Call
+rsaLast = sends (replicate 258 0xBB) (hex 5 0x0087079A0B ++ replicate 11 0x5A)
+
+abbrev pub keys : List Bool
+keys =
+    plays keyed (rsaFirst ⇒ sw 0x6982
+    ∷ right ⇒ sw 0x9000
+    ∷ rsaFirst ⇒ sw 0x9000
+    ∷ rsaLast ⇒ both (job 0x9A 0x07 (replicate 256 0x5A)) (workIs (zeros workSize))
+    ∷ finishes (replicate 258 0xBB) false (replicate 256 0xC3) ⇒ sized 256 0x6108
+    ∷ more ⇒ bytes (hex 10 0xC3C3C3C3C3C3C3C3_9000)
+    ∷ rsaFirst ⇒ sw 0x9000
+    ∷ tell 17 0x0087079A0C_5A5A5A5A5A5A5A5A5A5A5A5A ⇒ both (sw 0x6A80) (workIs (zeros workSize)) ∷ [])
+    ∷ plays keyed (right ⇒ sw 0x9000
+    ∷ sends (replicate 258 0xBB) (hex 5 0x0087119C26 ++ (hex 6 0x7C2482008120 ++ replicate 32 0x5A)) ⇒ job 0x9C 0x11 (replicate 32 0x5A)
+    ∷ tell 4 0x00C00000 ⇒ refused 5
+    ∷ done 0 0 ⇒ refused 7
+    ∷ sends (replicate 257 0xBB) (hex 4 0x00C00000) ⇒ refused 3
+    ∷ done 1 0x30 ⇒ bytes (hex 7 0x7C03820130_9000)
+    ∷ done 1 0x30 ⇒ refused 6
+    ∷ sends (replicate 258 0xBB) (hex 5 0x0087119D47 ++ (hex 7 0x7C458200854104 ++ replicate 64 0x5A)) ⇒ job 0x9D 0x11 (0x04 ∷ replicate 64 0x5A)
+    ∷ failed ⇒ sw 0x6F00
+    ∷ sends (replicate 258 0xBB) (hex 5 0x0087119D47 ++ (hex 7 0x7C458200814104 ++ replicate 64 0x5A)) ⇒ sw 0x6A80
+    ∷ tell 4 0x0087079C ⇒ sw 0x6A86 ∷ [])
+    ∷ playsAir keyed (tell 4 0x0087119C ⇒ sw 0x6982 ∷ asks ⇒ sw 0x6982 ∷ tell 4 0x0087079E ⇒ sw 0x6A80 ∷ [])
+    ∷ plays fixed (tell 4 0x0087009A ⇒ sw 0x6A86
+    ∷ tell 4 0x0087039B ⇒ sw 0x6A86
+    ∷ asks ⇒ job 0x9B 0x00 [] ∷ makes ⇒ challenge
+    ∷ tell 17 0x0087009B0C_7C0A82081112131415161719 ⇒ sw 0x6982
+    ∷ reply ⇒ sw 0x6985
+    ∷ tell 4 0x00DB3FFF ⇒ sw 0x6982 ∷ [])
+    ∷ []
+
+abbrev pub putting : List Bool
+putting =
+    plays fixed (asAdmin (tell 4 0x00DB3FFE ⇒ sw 0x6A86
+    ∷ tell 12 0x00DB3FFF07_5C017E53017799 ⇒ sw 0x6A80
+    ∷ tell 13 0x00DB3FFF08_5C035FC104530155 ⇒ sw 0x6A82
+    ∷ tell 15 0x00DB3FFF0A_5C035FC1025302550899 ⇒ sw 0x6A80
+    ∷ tell 17 0x00DB3FFF0C_5C035FC1075305AAAAAAAAAA ⇒ sw 0x9000
+    ∷ tell 13 0x00DB3FFF08_5C035FC107530155 ⇒ both (sw 0x9000) (storeIs (putObject fixed 0 (hex 1 0x55)))
+    ∷ container ⇒ bytes (hex 5 0x530155_9000)
+    ∷ tell 12 0x00DB3FFF07_5C035FC1075300 ⇒ both (sw 0x9000) (storeIs fixed)
+    ∷ container ⇒ sw 0x6A82
+    ∷ sends (replicate 258 0xBB) (hex 7 0x00DB3FFF437E41 ++ replicate 65 0x5A) ⇒ both (sw 0x6A84) (storeIs fixed)
+    ∷ sends (replicate 258 0xBB) (hex 7 0x00DB3FFF427E40 ++ replicate 64 0x5A) ⇒ sw 0x9000
+    ∷ tell 9 0x00CB3FFF03_5C017E_00 ⇒ bytes (hex 2 0x7E40 ++ (replicate 64 0x5A ++ hex 2 0x9000)) ∷ []))
+    ∷ []
+
+-- ---- calls the host may not make, in their order, where several apply
+
+-- a session with an open chain of INS 20
+abbrev pub impossible : Session
+impossible = holding (cleared false) (Open 0x20 0 0 0) Gone
+
+abbrev pub refusals : List Bool
+refusals =
+    follows (state (0 ∷ fixed) (zeros 5) impossible) (sends [] [] ⇒ refused 1 ∷ powers true ⇒ refused 1 ∷ done 1 0 ⇒ refused 1 ∷ [])
+    ∷ follows (state fixed (zeros 5) impossible) (sends [] [] ⇒ refused 2 ∷ done 1 0 ⇒ refused 2 ∷ powers true ⇒ refused 4 ∷ [])
+    ∷ follows (state fixed (zeros 5) (cleared false)) (sends [] [] ⇒ refused 3 ∷ sends (zeros 258) [] ⇒ refused 4 ∷ [])
+    ∷ follows (state fixed (zeros workSize) (cleared false)) (sends (zeros 258) [] ⇒ sw 0x6700 ∷ done 16 0 ⇒ refused 6 ∷ asks ⇒ job 0x9B 0x00 [] ∷ asks ⇒ refused 5 ∷ done 15 0 ⇒ refused 7 ∷ failed ⇒ sw 0x6F00 ∷ [])
+    ∷ []
+
+-- ---- the table and the claim
+
+abbrev pub table : List Bool
+table =
+    starredCases ++ (wrongCards ++ (harmlessErrors ++ (checks ++ (reading ++ (references ++ (keys ++ (putting ++ refusals)))))))
+
+abbrev pub Holds : Type 0
+Holds = allTrue table ≡ true

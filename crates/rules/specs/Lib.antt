@@ -1,0 +1,14 @@
+pub mod Bytes
+pub mod Ber
+pub mod Reference
+pub mod Store
+pub mod Session
+pub mod Command
+pub mod Held
+pub mod Pin
+pub mod Objects
+pub mod Keys
+pub mod Calls
+pub mod Runs
+pub mod Book
+pub mod Claims
