@@ -16,7 +16,7 @@
 use mathlib.Core.Path.{_≡_}
 use mathlib.Core.Bool.{Bool, true, false, not, _&&_}
 use mathlib.Core.List.{List, [], _∷_, _++_}
-use Prim.Native.Nat.{ℕ, zero, suc, _+_, _/_, _%_}
+use Prim.Native.Nat.{ℕ, zero, suc, _+_, _-_, _/_, _%_}
 use lib.Dec.{eqb}
 use lib.ListN.{length, take, drop, replicate}
 use Rattle.rules.specs.declared.Chain.the-variants.{Open}
@@ -25,11 +25,11 @@ use Rattle.rules.specs.declared.Session.{Session}
 use Rattle.rules.specs.declared.Refusal.{Refusal}
 use Rattle.rules.specs.declared.Answer.{Answer}
 use Rattle.rules.specs.declared.Answer.the-variants.{PoweredOn, Response, JobOpened, Refused}
-use Rattle.rules.specs.Bytes.{allTrue, sameBytes, zeros, word}
+use Rattle.rules.specs.Bytes.{allTrue, allBelow, sameBytes, zeros, word}
 use Rattle.rules.specs.Ber.{berLength}
 use Rattle.rules.specs.Reference.{pinForm}
-use Rattle.rules.specs.Store.{storeSize, workSize, putObject}
-use Rattle.rules.specs.Session.{State, state, cleared, holding}
+use Rattle.rules.specs.Store.{storeSize, workSize, offset, capacity, putObject}
+use Rattle.rules.specs.Session.{State, state, cleared, holding, withAdmin}
 use Rattle.rules.specs.Calls.{Call, powers, sends, finishes, refusalNumber, Outcome, Result, call}
 use Rattle.rules.specs.Runs.{leaves}
 
@@ -344,7 +344,9 @@ keys =
     ∷ finishes (replicate 258 0xBB) false (replicate 256 0xC3) ⇒ sized 256 0x6108
     ∷ more ⇒ bytes (hex 10 0xC3C3C3C3C3C3C3C3_9000)
     ∷ rsaFirst ⇒ sw 0x9000
-    ∷ tell 17 0x0087079A0C_5A5A5A5A5A5A5A5A5A5A5A5A ⇒ both (sw 0x6A80) (workIs (zeros workSize)) ∷ [])
+    ∷ tell 17 0x0087079A0C_5A5A5A5A5A5A5A5A5A5A5A5A ⇒ both (sw 0x6A80) (workIs (zeros workSize))
+    ∷ rsaFirst ⇒ sw 0x9000
+    ∷ tell 16 0x0087079E0B_5A5A5A5A5A5A5A5A5A5A5A ⇒ both (sw 0x6A80) (workIs (zeros workSize)) ∷ [])
     ∷ plays keyed (right ⇒ sw 0x9000
     ∷ sends (replicate 258 0xBB) (hex 5 0x0087119C26 ++ (hex 6 0x7C2482008120 ++ replicate 32 0x5A)) ⇒ job 0x9C 0x11 (replicate 32 0x5A)
     ∷ tell 4 0x00C00000 ⇒ refused 5
@@ -381,6 +383,43 @@ putting =
     ∷ tell 9 0x00CB3FFF03_5C017E_00 ⇒ bytes (hex 2 0x7E40 ++ (replicate 64 0x5A ++ hex 2 0x9000)) ∷ []))
     ∷ []
 
+-- a slot full of other bytes takes one byte: all after it become zero
+abbrev pub tails : List Bool
+tails =
+    plays (putObject fixed 0 (replicate 512 0xEE)) (asAdmin (tell 13 0x00DB3FFF08_5C035FC107530155 ⇒ both (sw 0x9000) (storeIs (putObject fixed 0 (hex 1 0x55))) ∷ []))
+    ∷ []
+
+-- ---- any possible session and any work area: what becomes zero, and what stays
+
+-- the work area is full of AA, and two bytes of it are an open chain of PUT DATA
+unfoldable pub chained : Bool → State
+chained admin = state fixed (replicate workSize 0xAA) (holding (withAdmin (cleared false) admin) (Open 0xDB 0x3F 0xFF 2) Gone)
+
+unfoldable pub zeroFirst : ℕ → List ℕ
+zeroFirst n = zeros n ++ replicate (workSize - n) 0xAA
+
+abbrev pub heldBytes : List Bool
+heldBytes =
+    -- the last piece is held with the others, one that breaks a rule for each piece is not
+    follows (chained true) (tell 6 0x00DB3FFF0155 ⇒ both (sw 0x6A80) (workIs (zeroFirst 3)) ∷ [])
+    ∷ follows (chained false) (tell 6 0x00DB3FFF0155 ⇒ both (sw 0x6982) (workIs (zeroFirst 2)) ∷ [])
+    -- another P2, another command: the chain is dropped, and the piece is not added
+    ∷ follows (chained true) (tell 6 0x10DB3FFE0155 ⇒ both (sw 0x6A86) (workIs (zeroFirst 2)) ∷ [])
+    ∷ follows (chained true) (tell 3 0x00A404 ⇒ both (sw 0x6700) (workIs (zeroFirst 2)) ∷ [])
+    ∷ follows (chained true) (tell 4 0x00C00000 ⇒ both (sw 0x6985) (workIs (zeroFirst 2)) ∷ [])
+    -- a piece that is not the last is added; a command in one piece and an answer that fits Le are never held
+    ∷ follows (chained true) (tell 6 0x10DB3FFF0155 ⇒ both (sw 0x9000) (workIs (replicate 2 0xAA ++ (0x55 ∷ replicate (workSize - 3) 0xAA))) ∷ [])
+    ∷ follows (state fixed (replicate workSize 0xAA) (withAdmin (cleared false) true)) (tell 6 0x00DB3FFF0155 ⇒ both (sw 0x6A80) (workIs (zeroFirst 0)) ∷ select ⇒ both selected (workIs (zeroFirst 0)) ∷ [])
+    ∷ []
+
+-- ---- the layout: the slots stand one behind the other, from 32 to the end of the store
+
+unfoldable pub behind : ℕ → Bool
+behind i = eqb (offset (suc i)) (offset i + 2 + capacity i)
+
+abbrev pub layout : List Bool
+layout = eqb (offset 0) 32 ∷ allBelow behind 11 ∷ eqb (offset 11 + 2 + capacity 11) storeSize ∷ []
+
 -- ---- calls the host may not make, in their order, where several apply
 
 -- a session with an open chain of INS 20
@@ -399,7 +438,7 @@ refusals =
 
 abbrev pub table : List Bool
 table =
-    starredCases ++ (wrongCards ++ (harmlessErrors ++ (checks ++ (reading ++ (references ++ (keys ++ (putting ++ refusals)))))))
+    starredCases ++ (wrongCards ++ (harmlessErrors ++ (checks ++ (reading ++ (references ++ (keys ++ (putting ++ (tails ++ (heldBytes ++ (layout ++ refusals))))))))))
 
 abbrev pub Holds : Type 0
 Holds = allTrue table ≡ true
