@@ -10,6 +10,8 @@
 --   verify r h d          VERIFY
 --   change r h d          CHANGE REFERENCE DATA
 --   reset r h d           RESET RETRY COUNTER
+--   refsIn s b            the references that a store holds, with the PIN status b
+--   refsOnto s r          the store with these references
 --   refs st               the references of a state
 --   putRefs st r          the state with these references: the only writer of the two records and of the PIN status
 --   onRefs st x           a command that says x of the references of st
@@ -153,19 +155,19 @@ reset r h d =
     (iff (not (eqb (h .p2) 0x80)) (answer 0x6A81 r)
     (resetGiven r d))
 
--- ---- the references of a state
+-- ---- the references of a store and of a state
+
+unfoldable pub refsIn : List ℕ → Bool → Refs
+refsIn s given = record { pin = referenceAt s pinAt; puk = referenceAt s pukAt; given = given }
+
+unfoldable pub refsOnto : List ℕ → Refs → List ℕ
+refsOnto s r = putReference (putReference s pinAt (r .pin)) pukAt (r .puk)
 
 unfoldable pub refs : State → Refs
-refs st = record {
-  pin = referenceAt (st .store) pinAt;
-  puk = referenceAt (st .store) pukAt;
-  given = pinGiven (st .session);
-}
+refs st = refsIn (st .store) (pinGiven (st .session))
 
 unfoldable pub putRefs : State → Refs → State
-putRefs st r =
-    state (putReference (putReference (st .store) pinAt (r .pin)) pukAt (r .puk)) (st .work)
-    (withPin (st .session) (r .given))
+putRefs st r = state (refsOnto (st .store) r) (st .work) (withPin (st .session) (r .given))
 
 unfoldable pub onRefs : State → Said → Made
 onRefs st x = record {
