@@ -6,18 +6,22 @@
 --   part-ext               two rows that agree on a stretch have the same part there
 --   part-apart part-there  a part apart from the stretch stays, and the stretch reads back
 --   splice-part            a stretch replaced by itself
+--   splice-again           a stretch replaced twice
+--   splice-apart           two stretches apart from each other, in either order
+--   splice-within          a stretch whose ends stay as they were
 --   part-none part-cons    a part of no bytes, and its first byte
 --   part-head              the part of a row that starts with the row v
 --   same-bytes same-true   `sameBytes` says that two rows are equal
 --
 -- Assumes nothing.
-use mathlib.Core.Path.{_≡_, refl, ap, ap₂, sym, _∙_}
+use mathlib.Core.Path.{_≡_, refl, ap, ap₂, sym, _∙_, subst}
 use mathlib.Core.Logic.{_⊎_, inl, inr, ⊎-elim}
 use mathlib.Core.Bool.{Bool, true, false, _&&_, true≢false, false≢true}
 use mathlib.Core.List.{List, [], _∷_, _++_}
 use Prim.Native.Nat.{ℕ, zero, suc, _+_, _-_, _≤_, _<_}
 use native.Mathlib.Omega.{arith}
 use native.Mathlib.Numerals.{add-one}
+use native.Mathlib.Nat.{add-assoc}
 use lib.Dec.{eqb, eqb-refl}
 use lib.ListN.{length, take, drop, getD, length-append, length-take, length-drop, List·getD-append}
 use lib.Seq.{length-take-le, getD-append-add, getD-take, getD-drop, ext-getD, take-at, drop-at, drop-cons}
@@ -112,6 +116,87 @@ splice-part s at n fits =
     ∙ getD-part s at n fits (j - at) (omega arith)
     ∙ ap (λ (i : ℕ). getD s i 0) e)
     (λ m. splice-after s v at f j (omega arith)))
+
+-- ---- stretches replaced one after the other
+
+-- a row is given by what stands before, in and after a stretch of it
+by-stretch : (s t : List ℕ) (at n : ℕ) → length s ≡ length t → at + n ≤ length s
+    → ((j : ℕ) → j < at → getD s j 0 ≡ getD t j 0)
+    → ((k : ℕ) → k < n → getD s (at + k) 0 ≡ getD t (at + k) 0)
+    → ((j : ℕ) → at + n ≤ j → getD s j 0 ≡ getD t j 0) → s ≡ t
+by-stretch s t at n e h low mid high =
+    ext-getD 0 s t e
+    λ j l. by-order j at (λ p. low j p)
+    (λ p. by-order j (at + n)
+    (λ q. subst (λ (i : ℕ). getD s i 0 ≡ getD t i 0) (omega arith) (mid (j - at) (omega arith)))
+    (λ q. high j q))
+
+-- what is replaced twice is what was put last
+pub splice-again : (s v w : List ℕ) (at : ℕ) → length v ≡ length w → at + length v ≤ length s → splice (splice s at v) at w ≡ splice s at w
+splice-again s v w at e h =
+    let hw : at + length w ≤ length s = omega arith in
+    let l : length (splice s at v) ≡ length s = length-splice s v at h in
+    let hs : at + length w ≤ length (splice s at v) = omega arith in
+    by-stretch (splice (splice s at v) at w) (splice s at w) at (length w)
+    (length-splice (splice s at v) w at hs ∙ l ∙ sym (length-splice s w at hw)) (rw (length-splice (splice s at v) w at hs) hs)
+    (λ j p. splice-before (splice s at v) w at hs j p ∙ splice-before s v at h j p ∙ sym (splice-before s w at hw j p))
+    (λ k p. splice-in (splice s at v) w at hs k p ∙ sym (splice-in s w at hw k p))
+    (λ j p. splice-after (splice s at v) w at hs j p ∙ splice-after s v at h j (omega arith) ∙ sym (splice-after s w at hw j p))
+
+-- the first of two stretches, the second behind it
+pub splice-apart : (s v w : List ℕ) (at to : ℕ) → at + length v ≤ to → to + length w ≤ length s
+    → splice (splice s at v) to w ≡ splice (splice s to w) at v
+splice-apart s v w at to a b =
+    let hv : at + length v ≤ length s = omega arith in
+    let lv : length (splice s at v) ≡ length s = length-splice s v at hv in
+    let lw : length (splice s to w) ≡ length s = length-splice s w to b in
+    let h1 : to + length w ≤ length (splice s at v) = omega arith in
+    let h2 : at + length v ≤ length (splice s to w) = omega arith in
+    by-stretch (splice (splice s at v) to w) (splice (splice s to w) at v) to (length w)
+    (length-splice (splice s at v) w to h1 ∙ lv ∙ sym (length-splice (splice s to w) v at h2 ∙ lw)) (rw (length-splice (splice s at v) w to h1) h1)
+    (λ j p. splice-before (splice s at v) w to h1 j p
+    ∙ by-order j at
+    (λ q. splice-before s v at hv j q ∙ sym (splice-before (splice s to w) v at h2 j q ∙ splice-before s w to b j p))
+    (λ q. by-order j (at + length v)
+    (λ r. subst (λ (i : ℕ). getD (splice s at v) i 0 ≡ getD (splice (splice s to w) at v) i 0) (omega arith)
+    (splice-in s v at hv (j - at) (omega arith) ∙ sym (splice-in (splice s to w) v at h2 (j - at) (omega arith))))
+    (λ r. splice-after s v at hv j r ∙ sym (splice-after (splice s to w) v at h2 j r ∙ splice-before s w to b j p))))
+    (λ k p. splice-in (splice s at v) w to h1 k p
+    ∙ sym (splice-after (splice s to w) v at h2 (to + k) (omega arith) ∙ splice-in s w to b k p))
+    (λ j p. splice-after (splice s at v) w to h1 j p ∙ splice-after s v at hv j (omega arith)
+    ∙ sym (splice-after (splice s to w) v at h2 j (omega arith) ∙ splice-after s w to b j p))
+
+-- the ends of a stretch stay as they were: only its middle is replaced
+pub splice-within : (s a v b : List ℕ) (at : ℕ) → at + (length a + (length v + length b)) ≤ length s
+    → ((k : ℕ) → k < length a → getD a k 0 ≡ getD s (at + k) 0)
+    → ((k : ℕ) → k < length b → getD b k 0 ≡ getD s (at + length a + length v + k) 0)
+    → splice s at (a ++ (v ++ b)) ≡ splice s (at + length a) v
+splice-within s a v b at h ha hb =
+    let m : List ℕ = a ++ (v ++ b) in
+    let lm : length m ≡ length a + (length v + length b) = length-append a (v ++ b) ∙ ap (λ (n : ℕ). length a + n) (length-append v b) in
+    let hm : at + length m ≤ length s = omega arith in
+    let hv : at + length a + length v ≤ length s = omega arith in
+    by-stretch (splice s at m) (splice s (at + length a) v) (at + length a) (length v)
+    (length-splice s m at hm ∙ sym (length-splice s v (at + length a) hv)) (rw (length-splice s m at hm) hv)
+    (λ j p. by-order j at
+    (λ q. splice-before s m at hm j q ∙ sym (splice-before s v (at + length a) hv j p))
+    (λ q. let e : at + (j - at) ≡ j = omega arith in
+    subst (λ (i : ℕ). getD (splice s at m) i 0 ≡ getD (splice s (at + length a) v) i 0) e
+    (splice-in s m at hm (j - at) (omega arith) ∙ List·getD-append a (v ++ b) 0 (j - at) (omega arith) ∙ ha (j - at) (omega arith)
+    ∙ sym (splice-before s v (at + length a) hv (at + (j - at)) (omega arith)))))
+    (λ k p. ap (λ (i : ℕ). getD (splice s at m) i 0) (add-assoc at (length a) k)
+    ∙ splice-in s m at hm (length a + k) (omega arith)
+    ∙ getD-append-add a (v ++ b) k 0 ∙ List·getD-append v b 0 k p
+    ∙ sym (splice-in s v (at + length a) hv k p))
+    (λ j p. by-order j (at + length m)
+    (λ q. let k : ℕ = j - (at + length a + length v) in
+    let e : at + (length a + (length v + k)) ≡ j = omega arith in
+    let e′ : at + length a + length v + k ≡ j = omega arith in
+    subst (λ (i : ℕ). getD (splice s at m) i 0 ≡ getD (splice s (at + length a) v) j 0) e
+    (splice-in s m at hm (length a + (length v + k)) (omega arith) ∙ getD-append-add a (v ++ b) (length v + k) 0
+    ∙ getD-append-add v b k 0 ∙ hb k (omega arith) ∙ ap (λ (i : ℕ). getD s i 0) e′
+    ∙ sym (splice-after s v (at + length a) hv j p)))
+    (λ q. splice-after s m at hm j q ∙ sym (splice-after s v (at + length a) hv j p)))
 
 -- ---- the same row
 
