@@ -4,4 +4,6 @@ pub mod Bits
 pub mod Lengths
 pub mod NoSecond
 pub mod Refs
+pub mod Slots
+pub mod WellFormed
 pub mod Starred
