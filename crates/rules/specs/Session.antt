@@ -34,7 +34,7 @@ use Rattle.rules.specs.Store.{workSize, Access, always, PIN, never, cont
 
 -- ---- one setter for each group of fields
 
-unfoldable pub cleared : Bool → Session
+abbrev pub cleared : Bool → Session
 cleared air = record {
   contactless = air;
   pin = false;
@@ -45,7 +45,7 @@ cleared air = record {
   job = Idle;
 }
 
-unfoldable pub withPin : Session → Bool → Session
+abbrev pub withPin : Session → Bool → Session
 withPin ss b = record {
   contactless = ss .contactless;
   pin = b;
@@ -56,7 +56,7 @@ withPin ss b = record {
   job = ss .job;
 }
 
-unfoldable pub withAdmin : Session → Bool → Session
+abbrev pub withAdmin : Session → Bool → Session
 withAdmin ss b = record {
   contactless = ss .contactless;
   pin = ss .pin;
@@ -67,7 +67,7 @@ withAdmin ss b = record {
   job = ss .job;
 }
 
-unfoldable pub holding : Session → Chain → Rest → Session
+abbrev pub holding : Session → Chain → Rest → Session
 holding ss c r = record {
   contactless = ss .contactless;
   pin = ss .pin;
@@ -78,7 +78,7 @@ holding ss c r = record {
   job = ss .job;
 }
 
-unfoldable pub withChallenge : Session → Challenge → Session
+abbrev pub withChallenge : Session → Challenge → Session
 withChallenge ss c = record {
   contactless = ss .contactless;
   pin = ss .pin;
@@ -89,7 +89,7 @@ withChallenge ss c = record {
   job = ss .job;
 }
 
-unfoldable pub withJob : Session → Job → Session
+abbrev pub withJob : Session → Job → Session
 withJob ss j = record {
   contactless = ss .contactless;
   pin = ss .pin;
@@ -102,10 +102,10 @@ withJob ss j = record {
 
 -- ---- what a session allows
 
-unfoldable pub pinGiven : Session → Bool
+abbrev pub pinGiven : Session → Bool
 pinGiven ss = ss .pin
 
-unfoldable pub allows : Session → Access → Bool
+abbrev pub allows : Session → Access → Bool
 allows ss always = true
 allows ss PIN = pinGiven ss
 allows ss never = false
@@ -115,35 +115,35 @@ readable ss i = allows ss (iff (ss .contactless) (getD contactlessRead i never) 
 
 -- ---- what it holds
 
-unfoldable pub chainLength : Chain → ℕ
+abbrev pub chainLength : Chain → ℕ
 chainLength Shut = 0
 chainLength (Open ins p1 p2 n) = n
 
-unfoldable pub wholeLength : Rest → ℕ
+abbrev pub wholeLength : Rest → ℕ
 wholeLength Gone = 0
 wholeLength (Left whole fetched) = whole
 
 -- never both in a possible session
-unfoldable pub heldLength : Session → ℕ
+abbrev pub heldLength : Session → ℕ
 heldLength ss = chainLength (ss .chain) + wholeLength (ss .rest)
 
-unfoldable pub chainOpen : Chain → Bool
+abbrev pub chainOpen : Chain → Bool
 chainOpen Shut = false
 chainOpen (Open ins p1 p2 n) = true
 
-unfoldable pub restHeld : Rest → Bool
+abbrev pub restHeld : Rest → Bool
 restHeld Gone = false
 restHeld (Left whole fetched) = true
 
-unfoldable pub challengeHeld : Challenge → Bool
+abbrev pub challengeHeld : Challenge → Bool
 challengeHeld Unasked = false
 challengeHeld (Awaits reply) = true
 
-unfoldable pub running : Job → Bool
+abbrev pub running : Job → Bool
 running Idle = false
 running (Running key alg le) = true
 
-unfoldable pub jobOpen : Session → Bool
+abbrev pub jobOpen : Session → Bool
 jobOpen ss = running (ss .job)
 
 -- ---- which are possible: refusal 2, the other way round
@@ -156,12 +156,12 @@ abbrev pub putTotal : ℕ
 putTotal = workSize
 
 -- INS 87 or DB; at most 13,321 bytes, of an 87 chain at most 266
-unfoldable pub chainOk : Chain → Bool
+abbrev pub chainOk : Chain → Bool
 chainOk Shut = true
 chainOk (Open ins p1 p2 n) = leb n workSize && (eqb ins 0x87 && leb n authTotal || eqb ins 0xDB)
 
 -- at most 13,321 bytes, and something left to fetch
-unfoldable pub restOk : Rest → Bool
+abbrev pub restOk : Rest → Bool
 restOk Gone = true
 restOk (Left whole fetched) = leb whole workSize && ltb fetched whole
 
@@ -172,7 +172,7 @@ keyJobOk key alg =
     || (eqb key 0x9A || eqb key 0x9C || eqb key 0x9D || eqb key 0x9E) && (eqb alg 0x07 || eqb alg 0x11)
 
 -- an expected length of 1 to 256
-unfoldable pub jobOk : Job → Bool
+abbrev pub jobOk : Job → Bool
 jobOk Idle = true
 jobOk (Running key alg le) = keyJobOk key alg && leb 1 le && leb le 256
 
