@@ -1,8 +1,10 @@
 -- Tests: laws of `iff` and of tests, and how a computed test of a whole table gives its rule at each entry.
 --
 --   on off                 which branch of an `iff` is taken
+--   passes fails negated   a test b that a call answered by r, after the code's test of `!r`
 --   and-left and-right and-both    a conjunction of tests that passes
 --   and-off-left and-off-right     one that does not
+--   and-end                the last test of a row
 --   or-left or-right or-none or-other or-cases   a disjunction
 --   each-true              each test of a row passes where `allTrue` does
 --   all-true-append        two rows of tests, one behind the other
@@ -18,7 +20,7 @@ use Prim.Native.Nat.{ℕ, zero, suc, _≤_, _<_}
 use native.Mathlib.Omega.{arith}
 use lib.Dec.{ltb, eqb}
 use lib.ListN.{getD}
-use borrow.Author.Tests.{eqb-true, eqb-false, ltb-true, ltb-false}
+use borrow.Author.Tests.{eqb-true, eqb-false, ltb-true, ltb-false, not-true, not-false}
 use Rattle.rules.specs.Bytes.{iff, allTrue, allBelow}
 
 -- ---- iff
@@ -32,6 +34,17 @@ pub off : {A : Type 0} (b : Bool) (x y : A) → b ≡ false → iff b x y ≡ y
 unfolding iff
 off true x y e = absurd (true≢false e)
 off false x y e = refl
+
+-- ---- what a call answered: r ≡ b is its promise, and the code has tested `!r`
+
+pub passes : {r b : Bool} → r ≡ b → not r ≡ false → b ≡ true
+passes e h = sym e ∙ not-false _ h
+
+pub fails : {r b : Bool} → r ≡ b → not r ≡ true → b ≡ false
+fails e h = sym e ∙ not-true _ h
+
+pub negated : {r b x : Bool} → r ≡ b → not r ≡ x → not b ≡ x
+negated e h = ap not (sym e) ∙ h
 
 -- ---- and, or
 
@@ -54,6 +67,10 @@ and-off-left false b e = refl
 pub and-off-right : (a b : Bool) → b ≡ false → (a && b) ≡ false
 and-off-right true b e = e
 and-off-right false b e = refl
+
+pub and-end : (b : Bool) → (b && true) ≡ b
+and-end true = refl
+and-end false = refl
 
 pub or-left : (a b : Bool) → a ≡ true → (a || b) ≡ true
 or-left true b e = refl

@@ -158,18 +158,22 @@ putTotal = workSize
 -- INS 87 or DB; at most 13,321 bytes, of an 87 chain at most 266
 abbrev pub chainOk : Chain → Bool
 chainOk Shut = true
-chainOk (Open ins p1 p2 n) = leb n workSize && (eqb ins 0x87 && leb n authTotal || eqb ins 0xDB)
+chainOk (Open ins p1 p2 n) = leb n workSize && iff (eqb ins 0x87) (leb n authTotal) (eqb ins 0xDB)
 
 -- at most 13,321 bytes, and something left to fetch
 abbrev pub restOk : Rest → Bool
 restOk Gone = true
 restOk (Left whole fetched) = leb whole workSize && ltb fetched whole
 
+unfoldable pub userKey : ℕ → Bool
+userKey key = eqb key 0x9A || eqb key 0x9C || eqb key 0x9D || eqb key 0x9E
+
+unfoldable pub userAlgorithm : ℕ → Bool
+userAlgorithm alg = eqb alg 0x07 || eqb alg 0x11
+
 -- 9B with 00, or one of 9A, 9C, 9D, 9E with 07 or 11
 unfoldable pub keyJobOk : ℕ → ℕ → Bool
-keyJobOk key alg =
-    eqb key 0x9B && eqb alg 0x00
-    || (eqb key 0x9A || eqb key 0x9C || eqb key 0x9D || eqb key 0x9E) && (eqb alg 0x07 || eqb alg 0x11)
+keyJobOk key alg = iff (eqb key 0x9B) (eqb alg 0x00) (userKey key && userAlgorithm alg)
 
 -- an expected length of 1 to 256
 abbrev pub jobOk : Job → Bool

@@ -84,7 +84,7 @@ unfoldable pub offset : ℕ → ℕ
 offset i = getD offsets i 0
 
 unfoldable pub named : ℕ → ℕ → ℕ → Bool
-named n t i = eqb (tagBytes i) n && eqb (tagOf i) t
+named n t i = eqb n (tagBytes i) && eqb t (tagOf i)
 
 unfoldable pub slotNamed : ℕ → ℕ → ℕ
 slotNamed n t = firstFrom (named n t) slots 0

@@ -1,0 +1,133 @@
+// The session: one setter for each group of fields, and the number of bytes that it says are held.
+use rules::Chain;
+use rules::Challenge;
+use rules::Job;
+use rules::Rest;
+use rules::Session;
+ghost use mathlib.Core.Path.{_≡_};
+ghost use Prim.Native.Nat.{_≤_};
+ghost use Rattle.rules.specs.Session.{cleared, withPin, withAdmin, holding, withChallenge, withJob, chainLength, wholeLength, heldLength, running};
+
+// ---- setters
+
+// The session of a power-on.
+pub fn cleared(contactless: bool) -> Session
+    ensures { λ r. ⌜ r ≡ cleared contactless ⌝ }
+{
+    Session {
+        contactless,
+        pin: false,
+        admin: false,
+        chain: Chain::Shut,
+        rest: Rest::Gone,
+        challenge: Challenge::Unasked,
+        job: Job::Idle,
+    }
+}
+
+pub fn with_pin(s: Session, given: bool) -> Session
+    ensures { λ r. ⌜ r ≡ withPin s given ⌝ }
+{
+    let mut n = s;
+    n.pin = given;
+    n
+}
+
+pub fn with_admin(s: Session, known: bool) -> Session
+    ensures { λ r. ⌜ r ≡ withAdmin s known ⌝ }
+{
+    let mut n = s;
+    n.admin = known;
+    n
+}
+
+pub fn holding(s: Session, chain: Chain, rest: Rest) -> Session
+    ensures { λ r. ⌜ r ≡ holding s chain rest ⌝ }
+{
+    let asked = s.challenge;
+    let task = s.job;
+    Session {
+        contactless: s.contactless,
+        pin: s.pin,
+        admin: s.admin,
+        chain,
+        rest,
+        challenge: asked,
+        job: task,
+    }
+}
+
+pub fn with_challenge(s: Session, challenge: Challenge) -> Session
+    ensures { λ r. ⌜ r ≡ withChallenge s challenge ⌝ }
+{
+    let open = s.chain;
+    let left = s.rest;
+    let kept = s.job;
+    Session {
+        contactless: s.contactless,
+        pin: s.pin,
+        admin: s.admin,
+        chain: open,
+        rest: left,
+        challenge,
+        job: kept,
+    }
+}
+
+pub fn with_job(s: Session, job: Job) -> Session
+    ensures { λ r. ⌜ r ≡ withJob s job ⌝ }
+{
+    let pieces = s.chain;
+    let unread = s.rest;
+    let awaited = s.challenge;
+    Session {
+        contactless: s.contactless,
+        pin: s.pin,
+        admin: s.admin,
+        chain: pieces,
+        rest: unread,
+        challenge: awaited,
+        job,
+    }
+}
+
+// ---- what a session holds
+
+pub fn chain_length(c: Chain) -> usize
+    ensures { λ r. ⌜ r ≡ chainLength c ⌝ }
+{
+    match c {
+        Chain::Shut => 0,
+        Chain::Open {
+            ins: _,
+            p1: _,
+            p2: _,
+            len,
+        } => len,
+    }
+}
+
+pub fn whole_length(r: Rest) -> usize
+    ensures { λ n. ⌜ n ≡ wholeLength r ⌝ }
+{
+    match r {
+        Rest::Gone => 0,
+        Rest::Left { whole, fetched: _ } => whole,
+    }
+}
+
+// The number of bytes that the work area holds.
+pub fn held_length(s: Session) -> usize
+    requires { ⌜ heldLength s ≤ 13321 ⌝ }
+    ensures { λ r. ⌜ r ≡ heldLength s ⌝ }
+{
+    let chain = s.chain;
+    let rest = s.rest;
+    chain_length(chain) + whole_length(rest)
+}
+
+pub fn running(j: Job) -> bool
+    ensures { λ r. ⌜ r ≡ running j ⌝ }
+{
+    if let Job::Idle = j { false } else { true }
+}
