@@ -1,0 +1,120 @@
+-- Laws: what the writers and the comparison do to a row of bytes.
+--
+--   fill-step fill-done    a row that is filled with the bytes of another, one by one from the front
+--   length-zeros zeros-at  a row of zeros
+--   lent                   a part that was lent and came back as v
+--   splice-one             one byte stored
+--   splice-next            two stretches replaced, the second right behind the first
+--   part-add               a part is its first k bytes and the j bytes behind them
+--   part-first part-rest   these, taken from the part itself
+--   same-on same-off       two rows compared from a place on: the bytes there are equal, or not
+--   same-end               no bytes are left
+--   other-length           rows of two lengths are not the same
+--
+-- Assumes nothing.
+use mathlib.Core.Path.{_≡_, refl, sym, ap, _∙_}
+use mathlib.Core.Bool.{Bool, true, false, _&&_}
+use mathlib.Core.List.{List, [], _∷_, _++_, append-assoc, append-nil}
+use Prim.Native.Nat.{ℕ, zero, suc, _+_, _≤_, _<_}
+use native.Mathlib.Nat.{not-suc-le-zero, le-of-suc-le-suc, suc-add, zero-add}
+use native.Mathlib.Numerals.{add-one}
+use native.Mathlib.Omega.{arith}
+use lib.Dec.{eqb}
+use lib.ListN.{length, take, drop, set, getD, length-append, length-take, drop-of-length-le, length-replicate, getD-replicate}
+use lib.Seq.{take-all, take-at, take-add, take-take, take-nil, drop-at, drop-drop, drop-cons, set-split}
+use borrow.Author.Tests.{eq-eqb, ne-eqb}
+use Rattle.rules.specs.Bytes.{sameBytes, part, splice, zeros}
+use Rattle.rules.proofs.Tests.{and-off-left}
+use Rattle.rules.proofs.Lists.{same-bytes}
+
+-- ---- a row filled with the bytes of s
+
+fill-suc : (n : ℕ) (s d : List ℕ) → n < length s → n < length d
+    → set (take n s ++ drop n d) n (getD s n 0) ≡ take (suc n) s ++ drop (suc n) d
+fill-suc n [] d hs hd = absurd (not-suc-le-zero hs)
+fill-suc n (x ∷ s) [] hs hd = absurd (not-suc-le-zero hd)
+fill-suc zero (x ∷ s) (y ∷ d) hs hd = refl
+fill-suc (suc n) (x ∷ s) (y ∷ d) hs hd =
+    ap (λ (t : List ℕ). x ∷ t) (fill-suc n s d (le-of-suc-le-suc hs) (le-of-suc-le-suc hd))
+
+pub fill-step : (n : ℕ) (s d : List ℕ) → n < length s → n < length d
+    → set (take n s ++ drop n d) n (getD s n 0) ≡ take (n + 1) s ++ drop (n + 1) d
+fill-step n s d hs hd = rw add-one (fill-suc n s d hs hd)
+
+pub fill-done : (n : ℕ) (s d : List ℕ) → length s ≤ n → length d ≤ n → take n s ++ drop n d ≡ s
+fill-done n s d hs hd = simp (take-all n s hs, drop-of-length-le d hd, append-nil)
+
+pub length-zeros : (n : ℕ) → length (zeros n) ≡ n
+unfolding zeros
+length-zeros n = length-replicate {A = ℕ} n 0
+
+pub zeros-at : (n i : ℕ) → i < n → getD (zeros n) i 0 ≡ 0
+unfolding zeros
+zeros-at n i h = getD-replicate n i 0 0 h
+
+-- ---- a stretch replaced
+
+pub lent : (at k : ℕ) (s v : List ℕ) → length v ≡ k → take at s ++ (v ++ drop k (drop at s)) ≡ splice s at v
+unfolding splice
+lent at k s v h = simp (drop-drop, h)
+
+pub splice-one : (s : List ℕ) (at b : ℕ) → at < length s → set s at b ≡ splice s at (b ∷ [])
+unfolding splice
+splice-one s at b h = rw add-one (set-split s at b h)
+
+pub splice-next : (s u v : List ℕ) (at : ℕ) → at + length u ≤ length s
+    → splice (splice s at u) (at + length u) v ≡ splice s at (u ++ v)
+unfolding splice
+splice-next s u v at h =
+    let n : ℕ = at + length u in
+    let p : List ℕ = take at s ++ u in
+    let lp : length p ≡ n = simp (length-append, length-take) (omega arith) in
+    let same : n + length v ≡ at + length (u ++ v) = simp length-append (omega arith) in
+    let e : take at s ++ (u ++ drop n s) ≡ p ++ drop n s = sym (append-assoc (take at s) u (drop n s)) in
+    let rest : drop (n + length v) (p ++ drop n s) ≡ drop (at + length (u ++ v)) s =
+    sym (drop-drop (length v) n (p ++ drop n s))
+    ∙ ap (drop (length v)) (drop-at p (drop n s) n lp)
+    ∙ drop-drop (length v) n s
+    ∙ ap (λ (k : ℕ). drop k s) same in
+    rw (e, take-at p (drop n s) n lp, rest) (simp append-assoc)
+
+-- ---- a part taken apart
+
+pub part-add : (s : List ℕ) (a k j : ℕ) → part s a (k + j) ≡ part s a k ++ part s (a + k) j
+unfolding part
+part-add s a k j = rw (take-add k j (drop a s), drop-drop k a s)
+
+pub part-first : (s : List ℕ) (a k j : ℕ) → part s a k ≡ take k (part s a (k + j))
+unfolding part
+part-first s a k j = sym (take-take k (k + j) (drop a s) (omega arith))
+
+drop-take : (k j : ℕ) (s : List ℕ) → drop k (take (k + j) s) ≡ take j (drop k s)
+drop-take zero j s = ap (λ (n : ℕ). take n s) (zero-add j)
+drop-take (suc k) j [] = rw (suc-add, take-nil j)
+drop-take (suc k) j (x ∷ s) = rw suc-add (drop-take k j s)
+
+pub part-rest : (s : List ℕ) (a k j : ℕ) → part s (a + k) j ≡ drop k (part s a (k + j))
+unfolding part
+part-rest s a k j = sym (drop-take k j (drop a s) ∙ ap (take j) (drop-drop k a s))
+
+-- ---- two rows compared
+
+module _ (a b : List ℕ) (i : ℕ) (ha : i < length a) (hb : i < length b) where
+  same-at : sameBytes (drop i a) (drop i b) ≡ (eqb (getD a i 0) (getD b i 0) && sameBytes (drop (i + 1) a) (drop (i + 1) b))
+  same-at = rw (add-one, drop-cons a i 0 ha, drop-cons b i 0 hb)
+
+  pub same-on : getD a i 0 ≡ getD b i 0 → sameBytes (drop i a) (drop i b) ≡ sameBytes (drop (i + 1) a) (drop (i + 1) b)
+  same-on e = same-at ∙ ap (λ (t : Bool). t && sameBytes (drop (i + 1) a) (drop (i + 1) b)) (eq-eqb _ _ e)
+
+  pub same-off : (getD a i 0 ≡ getD b i 0 → ⊥) → sameBytes (drop i a) (drop i b) ≡ false
+  same-off ne = same-at ∙ and-off-left _ _ (ne-eqb _ _ ne)
+
+pub same-end : (a b : List ℕ) (i : ℕ) → length a ≤ i → length b ≤ i → sameBytes (drop i a) (drop i b) ≡ true
+same-end a b i ha hb = rw (drop-of-length-le a ha, drop-of-length-le b hb)
+
+pub other-length : (a b : List ℕ) → (length a ≡ length b → ⊥) → sameBytes a b ≡ false
+other-length a b ne = go (sameBytes a b) refl
+  where
+    go : (t : Bool) → sameBytes a b ≡ t → sameBytes a b ≡ false
+    go true e = absurd (ne (ap length (same-bytes a b e)))
+    go false e = e

@@ -1,0 +1,26 @@
+-- `octets::part` meets its contract.
+-- Assumes nothing.
+use native.Mathlib.Nat.{add-sub-cancel-left}
+use borrow.Author.Needs.{needs}
+use Rattle.rules.specs.Bytes.{part}
+use Rattle.octets.proofs.part.Statement.{statement}
+use Rattle.octets.proofs.part.Tie as tie
+
+add-result : tie.Need-add-result
+add-result c = search needs
+
+sub-result : tie.Need-sub-result
+sub-result c = search needs
+
+part-result-start : tie.Need-part-result-start
+part-result-start c = search needs
+
+part-result-end : tie.Need-part-result-end
+part-result-end c = search needs
+
+returns : tie.Need-returns
+unfolding part
+returns c = rw (add-sub-cancel-left (c .before .args .from) (c .before .args .n))
+
+pub part-spec : {M : Type 1} → statement M
+part-spec = tie.close (tie.spec add-result sub-result part-result-start part-result-end returns)

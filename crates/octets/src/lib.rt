@@ -1,0 +1,126 @@
+// Octets: bytes copied, zeroed and compared, and the numbers in them.
+// Whoever writes a buffer writes it through these, so bytes are copied in one place and zeroed in one place.
+ghost use mathlib.Core.Path.{_≡_};
+ghost use mathlib.Core.List.{[], _∷_};
+ghost use Prim.Native.Nat.{_+_, _≤_, _<_};
+ghost use lib.ListN.{length};
+ghost use Rattle.rules.specs.Bytes.{sameBytes, part, splice, zeros, word, be16, be24, be32, be64};
+
+// ---- a stretch of a buffer: lent on, and filled whole
+
+fn copy_all(dst: &mut [u8], src: &[u8])
+    requires { ⌜ length (now dst) ≡ length (now src) ⌝ }
+    ensures { λ _. ⌜ now (dst .exit) ≡ now (src .entry) ⌝ }
+{
+    let mut i = 0;
+    while i < src.len() {
+        dst[i] = src[i];
+        i += 1;
+    }
+}
+
+pub fn put(dst: &mut [u8], at: usize, src: &[u8])
+    requires { ⌜ at + length (now src) ≤ length (now dst) ⌝ }
+    ensures { λ _. ⌜ now (dst .exit) ≡ splice (now (dst .entry)) at (now (src .entry)) ⌝ }
+{
+    let end = at + src.len();
+    copy_all(&mut dst[at..end], src);
+}
+
+fn zero_all(dst: &mut [u8])
+    ensures { λ _. ⌜ now (dst .exit) ≡ zeros (length (now (dst .entry))) ⌝ }
+{
+    let mut i = 0;
+    while i < dst.len() {
+        dst[i] = 0;
+        i += 1;
+    }
+}
+
+pub fn zero(dst: &mut [u8], at: usize, n: usize)
+    requires { ⌜ at + n ≤ length (now dst) ⌝ }
+    ensures { λ _. ⌜ now (dst .exit) ≡ splice (now (dst .entry)) at (zeros n) ⌝ }
+{
+    let end = at + n;
+    zero_all(&mut dst[at..end]);
+}
+
+pub fn put_byte(dst: &mut [u8], at: usize, b: u8)
+    requires { ⌜ at < length (now dst) ⌝ }
+    ensures { λ _. ⌜ now (dst .exit) ≡ splice (now (dst .entry)) at (b ∷ []) ⌝ }
+{
+    dst[at] = b;
+}
+
+pub fn put_word(dst: &mut [u8], at: usize, n: u16)
+    requires { ⌜ at + 2 ≤ length (now dst) ⌝ }
+    ensures { λ _. ⌜ now (dst .exit) ≡ splice (now (dst .entry)) at (word n) ⌝ }
+{
+    put_byte(dst, at, (n / 256 % 256) as u8);
+    put_byte(dst, at + 1, (n % 256) as u8);
+}
+
+// ---- a stretch read
+
+// 01, "The data objects in a command": a value read is that stretch of the command itself.
+pub fn part(s: &[u8], from: usize, n: usize) -> &[u8]
+    requires { ⌜ from + n ≤ length (now s) ⌝ }
+    ensures { λ r. ⌜ now r ≡ part (now (s .entry)) from n ⌝ }
+{
+    &s[from..from + n]
+}
+
+// It ends at the first byte that differs, so secrets are not compared here but by their number.
+pub fn same(a: &[u8], b: &[u8]) -> bool
+    ensures { λ r. ⌜ r ≡ sameBytes (now (a .entry)) (now (b .entry)) ⌝ }
+{
+    if a.len() != b.len() {
+        return false;
+    }
+    let mut i = 0;
+    while i < a.len() {
+        if a[i] != b[i] {
+            return false;
+        }
+        i += 1;
+    }
+    true
+}
+
+// ---- numbers, the highest byte first
+
+pub fn be16(s: &[u8], at: usize) -> usize
+    requires { ⌜ at + 2 ≤ length (now s) ⌝ }
+    ensures { λ r. ⌜ r ≡ be16 (now (s .entry)) at ⌝ }
+{
+    let high = s[at] as usize;
+    let low = s[at + 1] as usize;
+    high * 256 + low
+}
+
+pub fn be24(s: &[u8], at: usize) -> u32
+    requires { ⌜ at + 3 ≤ length (now s) ⌝ }
+    ensures { λ r. ⌜ r ≡ be24 (now (s .entry)) at ⌝ }
+{
+    let first = s[at] as u32;
+    let rest = be16(s, at + 1) as u32;
+    first * 65536 + rest
+}
+
+pub fn be32(s: &[u8], at: usize) -> u32
+    requires { ⌜ at + 4 ≤ length (now s) ⌝ }
+    ensures { λ r. ⌜ r ≡ be32 (now (s .entry)) at ⌝ }
+{
+    let high = be16(s, at) as u32;
+    let low = be16(s, at + 2) as u32;
+    high * 65536 + low
+}
+
+pub fn be64(s: &[u8], at: usize) -> u64
+    requires { ⌜ at + 8 ≤ length (now s) ⌝ }
+    ensures { λ r. ⌜ r ≡ be64 (now (s .entry)) at ⌝ }
+{
+    let high = be32(s, at) as u64;
+    let low = be32(s, at + 4) as u64;
+    high * 4294967296 + low
+}
