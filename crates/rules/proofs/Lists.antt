@@ -9,6 +9,8 @@
 --   splice-again           a stretch replaced twice
 --   splice-apart           two stretches apart from each other, in either order
 --   splice-within          a stretch whose ends stay as they were
+--   splice-join join-start two stretches put one behind the other, and from the start
+--   part-start             the start of a row whose start was replaced
 --   part-none part-cons    a part of no bytes, and its first byte
 --   part-head              the part of a row that starts with the row v
 --   same-bytes same-true   `sameBytes` says that two rows are equal
@@ -21,10 +23,10 @@ use mathlib.Core.List.{List, [], _∷_, _++_}
 use Prim.Native.Nat.{ℕ, zero, suc, _+_, _-_, _≤_, _<_}
 use native.Mathlib.Omega.{arith}
 use native.Mathlib.Numerals.{add-one}
-use native.Mathlib.Nat.{add-assoc}
+use native.Mathlib.Nat.{add-assoc, zero-add}
 use lib.Dec.{eqb, eqb-refl}
 use lib.ListN.{length, take, drop, getD, length-append, length-take, length-drop, List·getD-append}
-use lib.Seq.{length-take-le, getD-append-add, getD-take, getD-drop, ext-getD, take-at, drop-at, drop-cons}
+use lib.Seq.{length-take-le, getD-append-add, getD-take, getD-drop, ext-getD, take-at, drop-at, drop-cons, take-append-le}
 use borrow.Author.Tests.{eqb-true, eq-eqb}
 use Rattle.rules.specs.Bytes.{sameBytes, part, splice}
 use Rattle.rules.proofs.Tests.{and-left, and-right, and-both, by-order}
@@ -197,6 +199,37 @@ splice-within s a v b at h ha hb =
     ∙ getD-append-add v b k 0 ∙ hb k (omega arith) ∙ ap (λ (i : ℕ). getD s i 0) e′
     ∙ sym (splice-after s v (at + length a) hv j p)))
     (λ q. splice-after s m at hm j q ∙ sym (splice-after s v (at + length a) hv j p)))
+
+-- two stretches put one behind the other
+pub splice-join : (d a b : List ℕ) (at : ℕ) → at + (length a + length b) ≤ length d
+    → splice (splice d at a) (at + length a) b ≡ splice d at (a ++ b)
+splice-join d a b at h =
+    let ha : at + length a ≤ length d = omega arith in
+    let la : length (splice d at a) ≡ length d = length-splice d a at ha in
+    let hb : at + length a + length b ≤ length (splice d at a) = omega arith in
+    let lm : length (a ++ b) ≡ length a + length b = length-append a b in
+    let hm : at + length (a ++ b) ≤ length d = omega arith in
+    by-stretch (splice (splice d at a) (at + length a) b) (splice d at (a ++ b)) (at + length a) (length b)
+    (length-splice (splice d at a) b (at + length a) hb ∙ la ∙ sym (length-splice d (a ++ b) at hm))
+    (rw (length-splice (splice d at a) b (at + length a) hb) hb)
+    (λ j p. splice-before (splice d at a) b (at + length a) hb j p
+    ∙ by-order j at
+    (λ q. splice-before d a at ha j q ∙ sym (splice-before d (a ++ b) at hm j q))
+    (λ q. subst (λ (i : ℕ). getD (splice d at a) i 0 ≡ getD (splice d at (a ++ b)) i 0) (omega arith)
+    (splice-in d a at ha (j - at) (omega arith) ∙ sym (splice-in d (a ++ b) at hm (j - at) (omega arith) ∙ List·getD-append a b 0 (j - at) (omega arith)))))
+    (λ k p. splice-in (splice d at a) b (at + length a) hb k p
+    ∙ sym (ap (λ (i : ℕ). getD (splice d at (a ++ b)) i 0) (add-assoc at (length a) k)
+    ∙ splice-in d (a ++ b) at hm (length a + k) (omega arith) ∙ getD-append-add a b k 0))
+    (λ j p. splice-after (splice d at a) b (at + length a) hb j p ∙ splice-after d a at ha j (omega arith) ∙ sym (splice-after d (a ++ b) at hm j (omega arith)))
+
+-- the same from the start of a row
+pub join-start : (d a b : List ℕ) → length a + length b ≤ length d → splice (splice d 0 a) (length a) b ≡ splice d 0 (a ++ b)
+join-start d a b h = subst (λ (n : ℕ). splice (splice d 0 a) n b ≡ splice d 0 (a ++ b)) (zero-add (length a)) (splice-join d a b 0 (omega arith))
+
+-- the start of a row whose start was replaced
+pub part-start : (s v : List ℕ) (n : ℕ) → length v ≤ length s → n ≤ length v → part (splice s 0 v) 0 n ≡ take n v
+unfolding part splice
+part-start s v n h l = take-append-le n v (drop (0 + length v) s) l
 
 -- ---- the same row
 
