@@ -5,6 +5,7 @@
 --   lent                   a part that was lent and came back as v
 --   splice-one             one byte stored
 --   splice-next            two stretches replaced, the second right behind the first
+--   splice-cons            a byte, and a stretch right behind it
 --   part-add               a part is its first k bytes and the j bytes behind them
 --   part-first part-rest   these, taken from the part itself
 --   same-on same-off       two rows compared from a place on: the bytes there are equal, or not
@@ -62,6 +63,10 @@ pub splice-one : (s : List ℕ) (at b : ℕ) → at < length s → set s at b �
 unfolding splice
 splice-one s at b h = rw add-one (set-split s at b h)
 
+-- the first n bytes replaced change nothing behind them
+behind : (s p : List ℕ) (n m : ℕ) → length p ≡ n → drop (n + m) (p ++ drop n s) ≡ drop (n + m) s
+behind s p n m e = sym (drop-drop m n (p ++ drop n s)) ∙ ap (drop m) (drop-at p (drop n s) n e) ∙ drop-drop m n s
+
 pub splice-next : (s u v : List ℕ) (at : ℕ) → at + length u ≤ length s
     → splice (splice s at u) (at + length u) v ≡ splice s at (u ++ v)
 unfolding splice
@@ -69,14 +74,14 @@ splice-next s u v at h =
     let n : ℕ = at + length u in
     let p : List ℕ = take at s ++ u in
     let lp : length p ≡ n = simp (length-append, length-take) (omega arith) in
-    let same : n + length v ≡ at + length (u ++ v) = simp length-append (omega arith) in
     let e : take at s ++ (u ++ drop n s) ≡ p ++ drop n s = sym (append-assoc (take at s) u (drop n s)) in
-    let rest : drop (n + length v) (p ++ drop n s) ≡ drop (at + length (u ++ v)) s =
-    sym (drop-drop (length v) n (p ++ drop n s))
-    ∙ ap (drop (length v)) (drop-at p (drop n s) n lp)
-    ∙ drop-drop (length v) n s
-    ∙ ap (λ (k : ℕ). drop k s) same in
-    rw (e, take-at p (drop n s) n lp, rest) (simp append-assoc)
+    let w : n + length v ≡ at + length (u ++ v) = simp length-append (omega arith) in
+    rw (e, take-at p (drop n s) n lp, behind s p n (length v) lp, w) (simp append-assoc)
+
+pub splice-cons : (s x y v : List ℕ) (at b : ℕ) → at < length s
+    → x ≡ splice s at (b ∷ []) → y ≡ splice x (at + 1) v → y ≡ splice s at (b ∷ v)
+splice-cons s x y v at b h p q =
+    q ∙ ap (λ (z : List ℕ). splice z (at + 1) v) p ∙ splice-next s (b ∷ []) v at (omega arith)
 
 -- ---- a part taken apart
 

@@ -1,13 +1,12 @@
 -- `octets::put_word` meets its contract: two stretches of one byte, the second right behind the first.
 -- Assumes nothing.
-use mathlib.Core.Path.{ap, _∙_}
-use mathlib.Core.List.{List, [], _∷_}
-use Prim.Native.Nat.{ℕ, _+_, _/_, _%_}
+use mathlib.Core.List.{[], _∷_}
+use Prim.Native.Nat.{_/_, _%_}
 use native.Mathlib.Omega.{arith}
 use borrow.Author.Needs.{needs}
 use denote.Ref.{now}
-use Rattle.rules.specs.Bytes.{splice, word}
-use Rattle.octets.proofs.Laws.{splice-next}
+use Rattle.rules.specs.Bytes.{word}
+use Rattle.octets.proofs.Laws.{splice-cons}
 use Rattle.octets.proofs.put_word.Statement.{statement}
 use Rattle.octets.proofs.put_word.Tie as tie
 
@@ -33,10 +32,8 @@ returns : tie.Need-returns
 unfolding word
 returns c =
     let a = c .before .before .before .before .before .before .before .before .before .args in
-    let lo : List ℕ = a .n % 256 ∷ [] in
-    c .before .before .put-byte2 .ensures
-    ∙ ap (λ (x : List ℕ). splice x (a .at + 1) lo) (c .before .before .before .before .before .before .put-byte .ensures)
-    ∙ splice-next (now (a .dst)) (a .n / 256 % 256 ∷ []) lo (a .at) (omega arith)
+    splice-cons (now (a .dst)) _ _ (a .n % 256 ∷ []) (a .at) (a .n / 256 % 256) (omega arith)
+    (c .before .before .before .before .before .before .put-byte .ensures) (c .before .before .put-byte2 .ensures)
 
 pub put-word-spec : {M : Type 1} → statement M
 put-word-spec =
