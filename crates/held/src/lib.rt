@@ -11,9 +11,9 @@ ghost use mathlib.Core.List.{List, _++_};
 ghost use Prim.Native.Nat.{ℕ, _+_, _≤_, _<_};
 ghost use lib.ListN.{length};
 ghost use Rattle.rules.specs.declared.Rest.the-variants.{Left};
-ghost use Rattle.rules.specs.Bytes.{splice, word};
+ghost use Rattle.rules.specs.Bytes.{part, splice, word};
 ghost use Rattle.rules.specs.Session.{state, chainLength, heldLength};
-ghost use Rattle.rules.specs.Command.{says};
+ghost use Rattle.rules.specs.Command.{responds, tells, says};
 ghost use Rattle.rules.specs.Held.{dropped, leftWord, send, fetch, goesOn, based, heldPiece};
 ghost use Rattle.rules.specs.Calls.{outcome, delivered};
 
@@ -83,4 +83,148 @@ fn send_all(s: Session, resp: &mut [u8], head: &[u8], body: &[u8]) -> Reply
         answer: Answer::Response { len: n + 2 },
         session: s,
     }
+}
+
+// An answer longer than Le: the whole is held, and its first bytes go out.
+fn send_part(
+    s: Session,
+    work: &mut [u8],
+    resp: &mut [u8],
+    le: usize,
+    head: &[u8],
+    body: &[u8],
+) -> Reply
+    requires { ⌜ (le ≤ 256) × (258 ≤ length (now resp)) × (le < length (now head) + length (now body)) × (length (now head) + length (now body) ≤ 13321) × (length (now work) ≡ 13321) ⌝ }
+    ensures { λ r. ⌜ ((m : List ℕ) → outcome r m (now (work .exit)) (now (resp .exit)) ≡ (delivered (now (resp .entry)) (send (state m (now (work .entry)) s) le (now (head .entry) ++ now (body .entry)))) .outcome) ⌝ }
+{
+    let n = head.len() + body.len();
+    join(work, head, body);
+    show(resp, octets::part(work, 0, le), left_word(n - le));
+    Reply {
+        answer: Answer::Response { len: le + 2 },
+        session: session::holding(
+            s,
+            Chain::Shut,
+            Rest::Left {
+                whole: n,
+                fetched: le,
+            },
+        ),
+    }
+}
+
+// Every data answer goes out here.
+pub fn send(
+    s: Session,
+    work: &mut [u8],
+    resp: &mut [u8],
+    le: usize,
+    head: &[u8],
+    body: &[u8],
+) -> Reply
+    requires { ⌜ (le ≤ 256) × (258 ≤ length (now resp)) × (length (now head) + length (now body) ≤ 13321) × (length (now work) ≡ 13321) ⌝ }
+    ensures { λ r. ⌜ ((m : List ℕ) → outcome r m (now (work .exit)) (now (resp .exit)) ≡ (delivered (now (resp .entry)) (send (state m (now (work .entry)) s) le (now (head .entry) ++ now (body .entry)))) .outcome) ⌝ }
+{
+    if head.len() + body.len() <= le {
+        return send_all(s, resp, head, body);
+    }
+    send_part(s, work, resp, le, head, body)
+}
+
+// The rest of what is held goes out, and the held bytes become zero.
+fn fetch_last(s: Session, work: &mut [u8], resp: &mut [u8], from: usize, n: usize) -> Reply
+    requires { ⌜ (n ≤ 256) × (258 ≤ length (now resp)) × (from + n ≤ 13321) × (heldLength s ≤ 13321) × (length (now work) ≡ 13321) ⌝ }
+    ensures { λ r. ⌜ ((m : List ℕ) → outcome r m (now (work .exit)) (now (resp .exit)) ≡ (delivered (now (resp .entry)) (tells (dropped (state m (now (work .entry)) s)) (responds (part (now (work .entry)) from n) 0x9000))) .outcome) ⌝ }
+{
+    show(resp, octets::part(work, from, n), 0x9000);
+    Reply {
+        answer: Answer::Response { len: n + 2 },
+        session: drop_held(s, work),
+    }
+}
+
+// Up to Le more bytes of a held response.
+pub fn fetch(
+    s: Session,
+    work: &mut [u8],
+    resp: &mut [u8],
+    le: usize,
+    whole: usize,
+    fetched: usize,
+) -> Reply
+    requires { ⌜ (le ≤ 256) × (258 ≤ length (now resp)) × (fetched ≤ whole) × (whole ≤ 13321) × (heldLength s ≤ 13321) × (length (now work) ≡ 13321) ⌝ }
+    ensures { λ r. ⌜ ((m : List ℕ) → outcome r m (now (work .exit)) (now (resp .exit)) ≡ (delivered (now (resp .entry)) (fetch (state m (now (work .entry)) s) le whole fetched)) .outcome) ⌝ }
+{
+    let left = whole - fetched;
+    if left <= le {
+        return fetch_last(s, work, resp, fetched, left);
+    }
+    show(resp, octets::part(work, fetched, le), left_word(left - le));
+    Reply {
+        answer: Answer::Response { len: le + 2 },
+        session: session::holding(
+            s,
+            Chain::Shut,
+            Rest::Left {
+                whole,
+                fetched: fetched + le,
+            },
+        ),
+    }
+}
+
+// ---- chains
+
+// The same INS, P1 and P2.
+fn goes_on(c: Chain, h: Header) -> bool
+    ensures { λ r. ⌜ r ≡ goesOn c h ⌝ }
+{
+    let Chain::Open {
+        ins,
+        p1,
+        p2,
+        len: _,
+    } = c
+    else {
+        return false;
+    };
+    if ins != h.ins {
+        return false;
+    }
+    if p1 != h.p1 {
+        return false;
+    }
+    p2 == h.p2
+}
+
+// The session that a chaining command starts from: with its chain, or with none.
+pub fn based(s: Session, work: &mut [u8], h: Header) -> Session
+    requires { ⌜ (heldLength s ≤ 13321) × (length (now work) ≡ 13321) ⌝ }
+    ensures { λ r. ⌜ ((m : List ℕ) → state m (now (work .exit)) r ≡ based (state m (now (work .entry)) s) h) ⌝ }
+{
+    let chain = s.chain;
+    if goes_on(chain, h) {
+        return s;
+    }
+    drop_held(s, work)
+}
+
+// A piece is added to the chain, or opens one.
+pub fn hold_piece(s: Session, work: &mut [u8], h: Header, field: &[u8]) -> Session
+    requires { ⌜ (chainLength (s .chain) + length (now field) ≤ 13321) × (length (now work) ≡ 13321) ⌝ }
+    ensures { λ r. ⌜ ((m : List ℕ) → state m (now (work .exit)) r ≡ heldPiece (state m (now (work .entry)) s) h (now (field .entry))) ⌝ }
+{
+    let chain = s.chain;
+    let n = session::chain_length(chain);
+    octets::put(work, n, field);
+    session::holding(
+        s,
+        Chain::Open {
+            ins: h.ins,
+            p1: h.p1,
+            p2: h.p2,
+            len: n + field.len(),
+        },
+        Rest::Gone,
+    )
 }
