@@ -10,6 +10,9 @@
 --   onto-refs              what is read and put back changes nothing
 --   onto-onto              the last that is put stays
 --   onto-length            the store keeps its length
+--   sized-step given-step  a step keeps the sizes of the values, and the PIN status
+--   step-on                a step made on the store that earlier steps left
+--   onto-pin onto-puk      the store after a change of one reference
 --
 -- Assumes nothing.
 use mathlib.Core.Path.{_≡_, refl, ap, ap₂, sym, _∙_, subst}
@@ -22,8 +25,9 @@ use lib.ListN.{length, take, drop, getD, length-append, List·getD-append}
 use lib.Seq.{ext-getD, getD-append-add}
 use Rattle.rules.specs.Bytes.{part, splice}
 use Rattle.rules.specs.Reference.{Reference, referenceAt, putReference, charged, restored, renewed}
+use Rattle.rules.specs.Command.{Which, thePin, thePuk, Step, charge, equal, unequal, restore, newValue}
 use Rattle.rules.specs.Store.{pinAt, pukAt}
-use Rattle.rules.specs.Pin.{Refs, refsIn, refsOnto}
+use Rattle.rules.specs.Pin.{Refs, the, putThe, stepped, refsIn, refsOnto}
 use Rattle.rules.proofs.Tests.{by-order}
 use Rattle.rules.proofs.Lists.{length-splice, splice-before, splice-in, splice-after, length-part, getD-part, part-apart, part-there, part-cons, splice-part, splice-again, splice-apart, splice-within}
 
@@ -163,3 +167,64 @@ onto-onto s r q zr zq h =
     ap (λ (x : List ℕ). splice x 18 k2) (sym (splice-apart (splice s 8 p1) p2 k1 8 18 (omega arith) (omega arith)))
     ∙ ap (λ (x : List ℕ). splice (splice x 18 k1) 18 k2) (splice-again s p1 p2 8 (omega arith) (omega arith))
     ∙ splice-again (splice s 8 p2) k1 k2 18 (omega arith) (omega arith)
+
+-- ---- steps, one after the other
+
+pub sized-put : (r : Refs) (w : Which) (f : Reference) → Sized r → length (f .value) ≡ 8 → Sized (putThe r w f)
+unfolding putThe
+sized-put r thePin f z e = record { pin = e; puk = z .puk }
+sized-put r thePuk f z e = record { pin = z .pin; puk = e }
+
+value-sized : (r : Refs) (w : Which) → Sized r → length (the r w .value) ≡ 8
+unfolding the
+value-sized r thePin z = z .pin
+value-sized r thePuk z = z .puk
+
+-- a new value has eight bytes
+abbrev pub StepSized : Step → Type 0
+StepSized (charge w) = Unit {0}
+StepSized (equal w) = Unit {0}
+StepSized (unequal w) = Unit {0}
+StepSized (restore w) = Unit {0}
+StepSized (newValue w v) = length v ≡ 8
+
+pub sized-step : (r : Refs) (t : Step) → Sized r → StepSized t → Sized (stepped r t)
+unfolding stepped charged restored renewed
+sized-step r (charge w) z e = sized-put r w _ z (value-sized r w z)
+sized-step r (equal w) z e = z
+sized-step r (unequal w) z e = z
+sized-step r (restore w) z e = sized-put r w _ z (value-sized r w z)
+sized-step r (newValue w v) z e = sized-put r w _ z e
+
+given-put : (r : Refs) (w : Which) (f : Reference) → putThe r w f .given ≡ r .given
+unfolding putThe
+given-put r thePin f = refl
+given-put r thePuk f = refl
+
+pub given-step : (r : Refs) (t : Step) → stepped r t .given ≡ r .given
+unfolding stepped
+given-step r (charge w) = given-put r w _
+given-step r (equal w) = refl
+given-step r (unequal w) = refl
+given-step r (restore w) = given-put r w _
+given-step r (newValue w v) = given-put r w _
+
+-- s₁ holds the references r over s; a step made on it is the step made on r, over s
+pub step-on : (s s₁ s₂ : List ℕ) (r : Refs) (t : Step) (b : Bool) → 28 ≤ length s → Sized r → StepSized t → r .given ≡ b
+    → s₁ ≡ refsOnto s r → s₂ ≡ refsOnto s₁ (stepped (refsIn s₁ b) t) → s₂ ≡ refsOnto s (stepped r t)
+step-on s s₁ s₂ r t b h z e g p q =
+    let u : refsIn s₁ b ≡ r = ap₂ refsIn p (sym g) ∙ refs-onto s r z h in
+    q ∙ ap₂ (λ (l : List ℕ) (x : Refs). refsOnto l (stepped x t)) p u ∙ onto-onto s r (stepped r t) z (sized-step r t z e) h
+
+module _ (s : List ℕ) (b : Bool) (h : 28 ≤ length s) (f : Reference) (lf : length (f .value) ≡ 8) where
+  pub onto-pin : refsOnto s (putThe (refsIn s b) thePin f) ≡ putReference s pinAt f
+  unfolding refsOnto putThe refsIn putReference
+  onto-pin =
+      let l : length (splice s 8 (f .limit ∷ f .left ∷ f .value)) ≡ length s = length-splice s _ 8 (omega arith) in
+      ap (λ (x : Reference). putReference (putReference s pinAt f) pukAt x)
+      (sym (reference-apart s (f .limit ∷ f .left ∷ f .value) 8 18 (omega arith) (omega arith) (inr (omega arith))))
+      ∙ put-reference (putReference s pinAt f) pukAt (omega arith)
+
+  pub onto-puk : refsOnto s (putThe (refsIn s b) thePuk f) ≡ putReference s pukAt f
+  unfolding refsOnto putThe refsIn
+  onto-puk = ap (λ (l : List ℕ). putReference l pukAt f) (put-reference s pinAt (omega arith))

@@ -12,6 +12,7 @@
 --   reset r h d           RESET RETRY COUNTER
 --   refsIn s b            the references that a store holds, with the PIN status b
 --   refsOnto s r          the store with these references
+--   Judgement, judgedOn s b x    what is seen of a rule that says x of the references in s: word and status, and the store after it
 --   refs st               the references of a state
 --   putRefs st r          the state with these references: the only writer of the two records and of the PIN status
 --   onRefs st x           a command that says x of the references of st
@@ -23,6 +24,7 @@ use Prim.Native.Nat.{ℕ, _+_}
 use lib.Dec.{eqb}
 use lib.ListN.{length, take, drop}
 use Rattle.rules.specs.declared.Header.{Header}
+use Rattle.rules.specs.declared.Judged.{Judged}
 use Rattle.rules.specs.Bytes.{iff}
 use Rattle.rules.specs.Reference.{Reference, pinForm, pukForm, noneLeft, matches, charged, restored, renewed, referenceAt, putReference}
 use Rattle.rules.specs.Store.{pinAt, pukAt}
@@ -162,6 +164,16 @@ refsIn s given = record { pin = referenceAt s pinAt; puk = referenceAt s pukAt; 
 
 unfoldable pub refsOnto : List ℕ → Refs → List ℕ
 refsOnto s r = putReference (putReference s pinAt (r .pin)) pukAt (r .puk)
+
+pub record Judgement : Type 0 where
+  pub judged : Judged
+  pub store : List ℕ
+
+abbrev pub judgement : Judged → List ℕ → Judgement
+judgement j s = record { judged = j; store = s }
+
+unfoldable pub judgedOn : List ℕ → Bool → Said → Judgement
+judgedOn s b x = judgement (record { sw = x .sw; given = x .given }) (refsOnto s (made (refsIn s b) (x .steps)))
 
 unfoldable pub refs : State → Refs
 refs st = refsIn (st .store) (pinGiven (st .session))

@@ -68,6 +68,12 @@ pub struct Reply {
     pub session: Session,
 }
 
+// What a rule on references says: a status word, and the PIN status after it.
+pub struct Judged {
+    pub sw: u16,
+    pub given: bool,
+}
+
 // ---- a command, taken apart
 
 // The header, the number of data bytes (they start at 5) and the expected length.
