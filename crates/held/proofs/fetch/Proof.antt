@@ -9,11 +9,10 @@ use lib.ListN.{length}
 use borrow.Author.Tests.{le-leb}
 use Rattle.rules.specs.Bytes.{part, splice, word}
 use Rattle.rules.specs.Session.{holding}
-use Rattle.rules.specs.Command.{Made}
 use Rattle.rules.specs.Held.{fetch}
 use Rattle.rules.specs.Calls.{outcome, delivered}
 use Rattle.rules.proofs.Tests.{on}
-use Rattle.held.proofs.Laws.{same-outcome, length-of-part, part-fetched}
+use Rattle.held.proofs.Laws.{delivers, same-outcome, length-of-part, part-fetched}
 use Rattle.held.proofs.fetch.Statement.{statement}
 use Rattle.held.proofs.fetch.Tie as tie
 
@@ -34,7 +33,7 @@ unfolding fetch
 returns c = λ m.
     let i = c .before .before .before .before .before .before .before .before .before .before in
     c .before .before .before .before .fetch-last .ensures m
-    ∙ sym (ap (λ (x : Made). (delivered (i .args .resp .now) x) .outcome) (on _ _ _ (le-leb _ _ (c .before .before .before .before .before .before .before .if1 .taken))))
+    ∙ delivers (i .args .resp .now) (on _ _ _ (le-leb _ _ (c .before .before .before .before .before .before .before .if1 .taken)))
 
 part-requires : tie.Need-part-requires
 part-requires c κs = search needs
