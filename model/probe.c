@@ -98,12 +98,7 @@ static void session_to_bytes(const struct session *from, uint8_t out[SESSION_BYT
 /* False: the bytes are no session (a mark that is neither 0 nor 1, or a byte of a thing that is not there and is not 00). */
 static bool session_from_bytes(const uint8_t bytes[SESSION_BYTES], struct session *out)
 {
-    static const size_t marks[] = {0, 1, 2, 3, 9, 14, 23};
     uint8_t again[SESSION_BYTES];
-
-    for (size_t i = 0; i < sizeof marks / sizeof marks[0]; i++)
-        if (bytes[marks[i]] > 1)
-            return false;
 
     *out = cleared_session(bytes[0] ? CONTACTLESS : CONTACT);
     out->pin = bytes[1];
@@ -130,7 +125,7 @@ static bool session_from_bytes(const uint8_t bytes[SESSION_BYTES], struct sessio
         out->job.algorithm = bytes[25];
         out->job.expected = read_16(bytes + 26);
     }
-    /* What is left out above must be 00: then the same bytes come back. */
+    /* Each session has one form: bytes that are no session do not come back the same. */
     session_to_bytes(out, again);
     return memcmp(bytes, again, SESSION_BYTES) == 0;
 }

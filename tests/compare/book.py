@@ -1,9 +1,10 @@
 """The systematic part: the same for every seed but for filling bytes. Each section walks one group of 01's rules to its edges."""
-from cards import SLOT, SLOTS, KEYS, PIN_KEYS, FULL_AID, FIXED_PIN, FIXED_PUK, WORK_BYTES, MOST_87, Session, apdu, ber, tlv, hexed
-from cards import build_store, CONTACT, CONTACTLESS, STORE_BYTES, RESPONSE_BYTES
+from cards import CONTACT, CONTACTLESS, FIXED_PIN, FIXED_PUK, FULL_AID, KEYS, SLOT, SLOTS, STORE_BYTES, WORK_BYTES, Session
+from cards import apdu, ber, build_store, hexed, tlv
 
 ALL_INS = (0xA4, 0xCB, 0xC0, 0x20, 0x24, 0x2C, 0x87, 0xDB)
-SOME_BYTES = (0x00, 0x01, 0x02, 0x03, 0x04, 0x07, 0x11, 0x14, 0x27, 0x3E, 0x3F, 0x40, 0x7E, 0x7F, 0x80, 0x81, 0x82, 0x96, 0x98, 0x99, 0x9A,
+SOME_BYTES = (0x00, 0x01, 0x02, 0x03, 0x04, 0x07, 0x11, 0x14, 0x27, 0x3E, 0x3F, 0x40, 0x7E, 0x7F, 0x80, 0x81, 0x82, 0x96, 0x98,
+0x99, 0x9A,
               0x9B, 0x9C, 0x9D, 0x9E, 0x9F, 0xFE, 0xFF)
 WRONG = b"999999\xff\xff"
 MIXED_KEYS = (0x07, 0x11, 0x11, 0x11)
@@ -36,6 +37,15 @@ def issued(d, **more):
     options = dict(keys=MIXED_KEYS, objects=objects, filler=d.bytes)
     options.update(more)
     d.fresh(**options)
+
+
+def first_state(d):
+    """Before any other line: what a probe holds at its start."""
+    d.expect(d.verify_status(), "63C3")
+    d.expect(d.cmd(apdu(0x00, 0x24, 0x00, 0x81, FIXED_PUK + FIXED_PUK)), "9000")
+    d.expect(d.verify(), "9000")
+    d.fail()
+    d.on(CONTACT)
 
 
 # ---------------------------------------------------------------------------------------------- from bytes to a command
@@ -93,6 +103,15 @@ def parameters(d):
                     d.cmd(apdu(0x00, ins, p1, p2))
                 if ins in (0x87, 0xDB):
                     d.cmd(apdu(0x10, ins, p1, p2, data, 0))
+        # Several things wrong at once: which is said?
+        for p1, p2 in ((right[0] ^ 1, right[1] ^ 1), (right[0], right[1] ^ 1), (right[0] ^ 1, right[1]), (0xFF, right[1] ^ 1),
+        right):
+            for wrong in (b"", b"\x01", data + b"\x00" if data else b"\x5c"):
+                for left in (0, 2):
+                    for administrator in (0, 1):
+                        d.put("store", 8, bytes([3, left]) + FIXED_PIN + bytes([3, left]) + FIXED_PUK)
+                        d.set_session(Session(administrator=administrator))
+                        d.cmd(apdu(0x00, ins, p1, p2, wrong, 0))
 
 
 # ---------------------------------------------------------------------------------------------- SELECT, GET DATA, GET RESPONSE
@@ -132,7 +151,8 @@ def tags(d):
                     d.get_data(slot)
             for last in range(256) if not pin else range(16):
                 d.cmd(apdu(0x00, 0xCB, 0x3F, 0xFF, bytes([0x5C, 3, 0x5F, 0xC1, last]), 0))
-            for tag in ("7E", "7F61", "00007E", "7E0000", "5FC107", "5FC007", "5EC107", "5FC1", "5FC10700", "DFC107", "7F", "00", "53",
+            for tag in ("7E", "7F61", "00007E", "7E0000", "5FC107", "5FC007", "5EC107", "5FC1", "5FC10700", "DFC107", "7F", "00",
+            "53",
                         ""):
                 raw = bytes.fromhex(tag)
                 for form in (tlv(0x5C, raw), tlv(0x5C, raw) + b"\x00", b"\x5c\x81" + bytes([len(raw)]) + raw,
@@ -208,8 +228,9 @@ def tries(d):
 
 def references(d):
     """Every command on both references, from every state of PIN status and tries, with every kind of data."""
-    halves = {"pin": FIXED_PIN, "puk": FIXED_PUK, "wrong": WRONG, "long": b"12345678", "seven": b"1234567\xff", "five": b"12345\xff\xff\xff",
-              "letter": b"12345A\xff\xff", "hole": b"123456\xff7", "low": b"12345\x2f\xff\xff", "high": b"12345\x3a\xff\xff",
+    halves = {"pin": FIXED_PIN, "puk": FIXED_PUK, "wrong": WRONG, "long": b"12345678", "seven": b"1234567\xff",
+              "five": b"12345\xff\xff\xff", "letter": b"12345A\xff\xff", "hole": b"123456\xff7", "low": b"12345\x2f\xff\xff",
+              "high": b"12345\x3a\xff\xff",
               "any": bytes(range(8))}
     d.fresh(response=d.bytes(300))
     for pin_tries, puk_tries in ((3, 3), (1, 1), (0, 3), (3, 0), (0, 0)):
@@ -281,7 +302,8 @@ def key_rules(d):
 
 def key_forms(d):
     """The one form each key takes, and many that are near it."""
-    for key, algorithm, keys in ((0x9C, 0x11, MIXED_KEYS), (0x9D, 0x11, MIXED_KEYS), (0x9D, 0x07, (0, 0, 7, 0)), (0x9B, 0x00, MIXED_KEYS)):
+    for key, algorithm, keys in ((0x9C, 0x11, MIXED_KEYS), (0x9D, 0x11, MIXED_KEYS), (0x9D, 0x07, (0, 0, 7, 0)),
+                                 (0x9B, 0x00, MIXED_KEYS)):
         d.fresh(keys=keys, work=d.bytes(WORK_BYTES))
 
         def send(field):
@@ -396,6 +418,25 @@ def key_pieces(d):
                     d.put("work", 0, d.bytes(300))
                     d.set_session(Session(interface=interface, pin=pin, chain=(0x87, algorithm, key, 100)))
                     d.cmd(apdu(cla, 0x87, algorithm, key, d.bytes(20)))
+    # Made-up chains that a right command does not go on with, by one of INS, P1 and P2 alone.
+    d.fresh(keys=(0x11, 0x11, 0x11, 0x11), work=d.bytes(WORK_BYTES))
+    for key in KEYS + (0x9B,):
+        algorithm = 0 if key == 0x9B else 0x11
+        right = key_field(d, key, 0x11)
+        for chain in ((0x87, algorithm ^ 1, key, 3), (0x87, 0x07, key, 3), (0x87, algorithm, key ^ 1, 3), (0xDB, algorithm, key, 3),
+                      (0x87, algorithm, key, 0), (0x87, algorithm, key, 3)):
+            for cla in (0x00, 0x10):
+                d.put("work", 0, right[:3] + d.bytes(20))
+                d.set_session(Session(pin=1, administrator=1, chain=chain))
+                d.cmd(apdu(cla, 0x87, algorithm, key, right))
+                if d.session.job:
+                    d.fail()
+    for chain in ((0xDB, 0x00, 0xFF, 2), (0xDB, 0x3F, 0x00, 2), (0x87, 0x3F, 0xFF, 2), (0xDB, 0x3F, 0xFF, 0),
+                  (0xDB, 0x3F, 0xFF, 2)):
+        for cla in (0x00, 0x10):
+            d.put("work", 0, b"\x7e\x03" + d.bytes(20))
+            d.set_session(Session(administrator=1, chain=chain))
+            d.cmd(apdu(cla, 0xDB, 0x3F, 0xFF, b"\x7e\x01a"))
 
 
 def results(d):
@@ -453,8 +494,10 @@ def administrator(d):
             wrong[near] ^= 0x10
             d.reply(bytes(wrong))
             d.reply(reply)
-        for form in ("7C0A8208", "7C0A8208{r}00", "7C0B8209{r}00", "7C098207{r}", "7C0C8208{r}8100", "7C0E8208{r}82020000", "7C810A8208{r}",
-                     "7C0B828108{r}", "7C0A8108{r}", "7C0A8008{r}", "7C0A8308{r}", "7D0A8208{r}", "820A{r}", "{r}", "7C028200", "7C028000",
+        for form in ("7C0A8208", "7C0A8208{r}00", "7C0B8209{r}00", "7C098207{r}", "7C0C8208{r}8100", "7C0E8208{r}82020000",
+        "7C810A8208{r}",
+                     "7C0B828108{r}", "7C0A8108{r}", "7C0A8008{r}", "7C0A8308{r}", "7D0A8208{r}", "820A{r}", "{r}", "7C028200",
+                     "7C028000",
                      "7C03810000", "7C0281", "7C02810000", "7C0381 8100", "7C00", "7C", ""):
             reply = d.bytes(8)
             d.set_session(Session(administrator=held))
@@ -559,7 +602,8 @@ def put_totals(d):
                 if d.session.chain:
                     d.cmd(apdu(0x10, 0xDB, 0x3F, 0xFF, b"\x00"))
     # No administrator, other parameters, contactless: with a chain that goes on.
-    for session in (Session(chain=(0xDB, 0x3F, 0xFF, 30)), Session(administrator=1, chain=(0xDB, 0x3F, 0xFE, 30)),
+    for session in (Session(chain=(0xDB, 0x3F, 0xFF, 30)), Session(chain=(0xDB, 0x3F, 0xFF, 13321)),
+                    Session(administrator=1, chain=(0xDB, 0x3F, 0xFE, 30)),
                     Session(interface=1, administrator=1, chain=(0xDB, 0x3F, 0xFF, 30)), Session(chain=(0xDB, 0x00, 0x00, 13321))):
         for cla in (0x00, 0x10):
             for data in (b"", d.bytes(10)):
@@ -597,7 +641,8 @@ def put_forms(d):
             send(chuid.ask + b"\x53" + length + value)
             send(b"\x7e" + length + value)
             send(b"\x5c" + b"\x81\x03" + chuid.tag + b"\x53" + length + value)
-        for field in (b"\x5c\x01\x7e" + tlv(0x53, value), b"\x5c\x01\x7e" + tlv(0x7E, value), b"\x5c\x03\x00\x00\x7e" + tlv(0x53, value),
+        for field in (b"\x5c\x01\x7e" + tlv(0x53, value), b"\x5c\x01\x7e" + tlv(0x7E, value),
+                      b"\x5c\x03\x00\x00\x7e" + tlv(0x53, value),
                       b"\x5c\x02\x7f\x61" + tlv(0x53, value), b"\x7f\x61" + ber(len(value)) + value, chuid.ask + tlv(0x7E, value),
                       tlv(0x53, value) + chuid.ask, tlv(0x53, value), chuid.ask, chuid.ask + chuid.ask + tlv(0x53, value),
                       chuid.ask + tlv(0x53, value) + tlv(0x53, value), tlv(0x7E, value) + tlv(0x7E, value),
@@ -642,17 +687,23 @@ def crossing_lines(d):
     c = lambda raw: b"cmd " + hexed(raw)
     chuid, face = SLOT["CHUID"], SLOT["Face"]
     out = [c(bytes.fromhex(text)) for text in
-           ("", "00", "00A404", "0087119E", "1087119E05AABB", "00A40400000000", "0C87119E", "1C87119E", "8087119E", "0187119E", "00000000",
-            "00880000", "10A40400", "10CB3FFF", "10C00000", "10200080", "10240080", "102C0080", "00C00000", "00C0000001", "00C0000100",
-            "00C000000101", "00200080", "00FF0080", "0020FF80", "00200180", "00200081", "00240081", "00240082", "002C0081", "002C0080",
-            "0087009B", "0087009B047C02810000", "1087009B047C028100", "1087009B", "0087009C", "0087079E", "0087119F", "10DB3FFF", "00DB3FFF",
-            "10DB3FFE", "00DB3FFF037E0161", "10DB3FFF025C03", "1087119E027C24", "0087119E027C24", "1087079A027C82", "0087079A027C82",
+           ("", "00", "00A404", "0087119E", "1087119E05AABB", "00A40400000000", "0C87119E", "1C87119E", "8087119E", "0187119E",
+           "00000000",
+            "00880000", "10A40400", "10CB3FFF", "10C00000", "10200080", "10240080", "102C0080", "00C00000", "00C0000001",
+            "00C0000100",
+            "00C000000101", "00200080", "00FF0080", "0020FF80", "00200180", "00200081", "00240081", "00240082", "002C0081",
+            "002C0080",
+            "0087009B", "0087009B047C02810000", "1087009B047C028100", "1087009B", "0087009C", "0087079E", "0087119F", "10DB3FFF",
+            "00DB3FFF",
+            "10DB3FFE", "00DB3FFF037E0161", "10DB3FFF025C03", "1087119E027C24", "0087119E027C24", "1087079A027C82",
+            "0087079A027C82",
             "1087119C", "0087119D")]
     out += [c(bytes(300)), c(apdu(0x00, 0xA4, 0x04, 0x00, FULL_AID)), c(apdu(0x00, 0xA4, 0x04, 0x00, FULL_AID, 3)),
             c(apdu(0x00, 0xA4, 0x00, 0x00, FULL_AID)), c(apdu(0x00, 0xA4, 0x04, 0x00, b"\xa0")),
             c(apdu(0x00, 0xCB, 0x3F, 0xFF, chuid.ask, 0)), c(apdu(0x00, 0xCB, 0x3F, 0xFF, face.ask, 0)),
             c(apdu(0x00, 0xCB, 0x3F, 0xFF, SLOT["Certificate 9D"].ask, 0)), c(apdu(0x00, 0xCB, 0x3F, 0xFF, b"\x5c\x01\x7e")),
-            c(apdu(0x00, 0xCB, 0x3F, 0xFF, b"\x5c")), c(apdu(0x00, 0x20, 0x00, 0x80, d.pin)), c(apdu(0x00, 0x20, 0x00, 0x80, WRONG)),
+            c(apdu(0x00, 0xCB, 0x3F, 0xFF, b"\x5c")), c(apdu(0x00, 0x20, 0x00, 0x80, d.pin)),
+            c(apdu(0x00, 0x20, 0x00, 0x80, WRONG)),
             c(apdu(0x00, 0x20, 0x00, 0x80, b"12345")), c(apdu(0x00, 0x24, 0x00, 0x80, d.pin + d.pin)),
             c(apdu(0x00, 0x24, 0x00, 0x81, WRONG + d.puk)), c(apdu(0x00, 0x2C, 0x00, 0x80, d.puk + d.pin)),
             c(apdu(0x00, 0x2C, 0x00, 0x80, WRONG + d.pin)), c(apdu(0x00, 0x87, 0x11, 0x9E, key_field(d, 0x9E, 0x11))),
@@ -769,7 +820,7 @@ def well_formed(d):
     d.fresh(work=d.bytes(WORK_BYTES))
     job = Session(job=(0x9E, 0x11, 256))
 
-    def calls(word=None):
+    def calls():
         d.set_session(job)
         d.done(b"\x01")
         d.set_session(job)
@@ -789,7 +840,8 @@ def well_formed(d):
             put_and_back(at, bytes([other]), mark[at:at + 1])
     put_and_back(3, b"\x01\x00", b"\x00\x01")
     for at in (8, 18):
-        for limit, left in ((0, 0), (1, 0), (1, 1), (1, 2), (3, 4), (15, 0), (15, 15), (15, 16), (16, 0), (16, 16), (16, 17), (255, 255), (255, 0),
+        for limit, left in ((0, 0), (1, 0), (1, 1), (1, 2), (3, 4), (15, 0), (15, 15), (15, 16), (16, 0), (16, 16), (16, 17),
+                            (255, 255), (255, 0),
                             (128, 3), (3, 255), (0, 1)):
             put_and_back(at, bytes([limit, left]), b"\x03\x03")
     for at in range(8):
@@ -848,7 +900,8 @@ def sizes(d):
     calls()
     d.buffer("work", d.bytes(WORK_BYTES))
     good = build_store()
-    for store in (b"", good[:1], good[:8], good[:32], good[:33399], good + b"\x00", good + d.bytes(6600), good[1:], bytes(STORE_BYTES)):
+    for store in (b"", good[:1], good[:8], good[:32], good[:33399], good + b"\x00", good + d.bytes(6600), good[1:],
+    bytes(STORE_BYTES)):
         d.buffer("store", store)
         calls()
     d.raw(b"store " + b"00" * 40001)
@@ -861,7 +914,8 @@ def sizes(d):
 def order_of_refusals(d):
     """All sixteen ways in which the first four can hold or not, with each call."""
     d.fresh()
-    possible = {"cmd": Session(job=(0x9E, 0x11, 256)), "done": Session(), "wrong": Session(job=(0x9E, 0x11, 256)), "plain": Session()}
+    possible = {"cmd": Session(job=(0x9E, 0x11, 256)), "done": Session(), "wrong": Session(job=(0x9E, 0x11, 256)),
+    "plain": Session()}
     impossible = {"cmd": Session(job=(0x9E, 0x11, 0)), "done": Session(rest=(10, 10)), "wrong": Session(job=(0x9E, 0x12, 256)),
                   "plain": Session(chain=(0x20, 0, 0, 0))}
     for wrong_work in (False, True):
@@ -892,22 +946,33 @@ def order_of_refusals(d):
 def bad_lines(d):
     d.fresh()
     zeros = b"00" * 64
-    lines = [b"", b" ", b"cmd", b"done", b"store", b"work", b"resp", b"session", b"on", b"put", b"cmd  ", b"cmd 0", b"cmd 000", b"cmd 0G",
-             b"cmd 00 ", b"cmd 00 00", b" cmd 00", b"cmd\t00", b"cmd 00\r", b"CMD 00", b"Cmd 00", b"cmdx 00", b"cm 00", b"cmd:00", b"cmd 0x00",
-             b"done 0", b"done 0g", b"done 00 ", b"done  00", b"fail ", b"fail 00", b" fail", b"FAIL", b"fai", b"failed", b"fail\r", b"fail\x00",
+    lines = [b"", b" ", b"cmd", b"done", b"store", b"work", b"resp", b"session", b"on", b"put", b"cmd  ", b"cmd 0", b"cmd 000",
+    b"cmd 0G",
+             b"cmd 00 ", b"cmd 00 00", b" cmd 00", b"cmd\t00", b"cmd 00\r", b"CMD 00", b"Cmd 00", b"cmdx 00", b"cm 00", b"cmd:00",
+             b"cmd 0x00",
+             b"done 0", b"done 0g", b"done 00 ", b"done  00", b"fail ", b"fail 00", b" fail", b"FAIL", b"fai", b"failed",
+             b"fail\r", b"fail\x00",
              b"on 2", b"on 00", b"on 01", b"on ", b"on 0 ", b"on  0", b"on x", b"on -1", b"on 0\r", b"on\x000",
-             b"session ", b"session 00", b"session " + zeros[:-2], b"session " + zeros + b"00", b"session " + zeros + b" ", b"session " + zeros[:-1],
+             b"session ", b"session 00", b"session " + zeros[:-2], b"session " + zeros + b"00", b"session " + zeros + b" ",
+             b"session " + zeros[:-1],
              b"session " + b"0g" + zeros[2:],
              b"store 0", b"store 0G", b"store 00 00", b"work 0", b"work zz", b"resp 0", b"resp 0 ", b"resp  00",
-             b"put ", b"put store", b"put store ", b"put store 0", b"put store  00", b"put  store 0 00", b"put store 0  00", b"put store 0 0",
-             b"put store 0 0g", b"put store x 00", b"put store -1 00", b"put store +1 00", b"put store 1. 00", b"put store 0x1 00", b"put store 1a 00",
+             b"put ", b"put store", b"put store ", b"put store 0", b"put store  00", b"put  store 0 00", b"put store 0  00",
+             b"put store 0 0",
+             b"put store 0 0g", b"put store x 00", b"put store -1 00", b"put store +1 00", b"put store 1. 00", b"put store 0x1 00",
+             b"put store 1a 00",
              b"put store 33400 00", b"put store 33399 0000", b"put store 33401 ", b"put store 99999 00", b"put store 65536 00",
-             b"put store 4294967296 00", b"put store 4294967304 00", b"put store 18446744073709551616 00", b"put store 18446744073709551624 00",
-             b"put store 340282366920938463463374607431768211456 00", b"put work 13321 00", b"put work 13320 0000", b"put work 13322 ",
-             b"put resp 258 00", b"put resp 257 0000", b"put resp 259 ", b"put resp 0 " + b"00" * 259, b"put foo 0 00", b"put session 0 00",
+             b"put store 4294967296 00", b"put store 4294967304 00", b"put store 18446744073709551616 00",
+             b"put store 18446744073709551624 00",
+             b"put store 340282366920938463463374607431768211456 00", b"put work 13321 00", b"put work 13320 0000",
+             b"put work 13322 ",
+             b"put resp 258 00", b"put resp 257 0000", b"put resp 259 ", b"put resp 0 " + b"00" * 259, b"put foo 0 00",
+             b"put session 0 00",
              b"put store 0 00 ", b"put store 0 00 00", b"putstore 0 00", b"PUT store 0 00", b"put STORE 0 00",
-             b"\x00", b"\xff\xfe", b"cmd \xc3\xa9", b"cmd 00\x00", b"cmd \x0000", b"hello world", b"#", b"R 9000", b"ok", b"bad line",
-             b"cmd " + b"0" * 150001, b"cmd " + b"00" * 75000 + b"g0", b"done " + b"0" * 99999, b"x" * 200000, b"put store 0 " + b"00" * 60000,
+             b"\x00", b"\xff\xfe", b"cmd \xc3\xa9", b"cmd 00\x00", b"cmd \x0000", b"hello world", b"#", b"R 9000", b"ok",
+             b"bad line",
+             b"cmd " + b"0" * 150001, b"cmd " + b"00" * 75000 + b"g0", b"done " + b"0" * 99999, b"x" * 200000,
+             b"put store 0 " + b"00" * 60000,
              b"store " + b"00" * 60000, b"session " + b"00" * 60000, b"fail" + b" " * 120000, b"cmd " + b"00" * 60000 + b" "]
     # A byte of a thing that is not there, a mark that is neither 0 nor 1, a byte past the 28.
     for at in range(64):
@@ -937,7 +1002,8 @@ def bad_lines(d):
     d.done(bytes(150000))
     d.raw(b"cmd 00200080")
     d.raw(b"fail")
-    for line in (b"cmd 00a4040009a00000030800001000", b"cmd 00A4040009a00000030800001000", b"resp " + b"aB" * 258, b"put resp 3 fF"):
+    for line in (b"cmd 00a4040009a00000030800001000", b"cmd 00A4040009a00000030800001000", b"resp " + b"aB" * 258,
+    b"put resp 3 fF"):
         d.raw(line)
     d.raw(b"session " + b"01" + zeros[2:])
     d.verify_status()
@@ -952,10 +1018,12 @@ def bad_lines(d):
 def hidden_lines(d):
     """Numbers with leading zeros are decimal numbers."""
     d.fresh()
-    for line in (b"put store 00 4F", b"put store 000 4F", b"put store 033399 11", b"put resp 000000000000000000000000000000000000257 22"):
+    for line in (b"put store 00 4F", b"put store 000 4F", b"put store 033399 11",
+    b"put resp 000000000000000000000000000000000000257 22"):
         d.raw(line)
     d.verify_status()
 
 
-ALL = [headers, lengths, parameters, selects, tags, every_le, tries, references, key_rules, key_forms, key_pieces, results, administrator,
+ALL = [headers, lengths, parameters, selects, tags, every_le, tries, references, key_rules, key_forms, key_pieces, results,
+administrator,
        put_edges, put_totals, put_forms, crossings, sessions, well_formed, sizes, order_of_refusals, bad_lines, hidden_lines]

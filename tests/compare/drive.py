@@ -1,6 +1,5 @@
 """A driver: sends the lines, notes what they cover, and keeps what it needs to know of the card to steer."""
-from cards import Answer, Session, CONTACT, CONTACTLESS, FIXED_PIN, FIXED_PUK, FIXED_STORE, SLOTS, WORK_BYTES, RESPONSE_BYTES
-from cards import apdu, build_store, hexed
+from cards import CONTACT, FIXED_PIN, FIXED_PUK, RESPONSE_BYTES, SLOTS, WORK_BYTES, Answer, Session, apdu, build_store, hexed
 from programs import Failure
 
 
@@ -21,17 +20,17 @@ class Driver:
 
     # ------------------------------------------------------------------------------------------ lines
 
-    def _note(self, line, verb, raw, text):
+    def _note(self, verb, raw, text):
         answer = Answer(text)
         before = self.session
         self.coverage.note(verb, raw, before, answer)
         if answer.is_outcome:
             self.session = answer.session
             if verb == "cmd" and answer.word == "9000":
-                self._learn(raw, before)
+                self._learn(raw)
         return answer
 
-    def _learn(self, raw, before):
+    def _learn(self, raw):
         """A command was answered 9000: what does that tell of the store?"""
         ins, p2, data = raw[1], raw[3], raw[5:]
         if ins == 0x24 and p2 == 0x80:
@@ -60,44 +59,44 @@ class Driver:
                 verb += " " + words[1].decode("ascii", "replace")
             elif len(words) > 1 and verb in ("cmd", "session"):
                 raw = bytes.fromhex(words[1].decode())
-        answer = self._note(line, verb, raw, text)
+        answer = self._note(verb, raw, text)
         if verb == "session":
             self.session = Session.read(raw)
         return answer
 
     def cmd(self, raw):
         line = self._hex_line("cmd", raw)
-        return self._note(line, "cmd", raw, self.pair.ask(line))
+        return self._note("cmd", raw, self.pair.ask(line))
 
     def cmds(self, raws):
         """Commands that follow each other whatever is answered. Gives the last answer."""
         lines = [self._hex_line("cmd", raw) for raw in raws]
         out = None
-        for line, raw, text in zip(lines, raws, self.pair.ask_all(lines)):
-            out = self._note(line, "cmd", raw, text)
+        for raw, text in zip(raws, self.pair.ask_all(lines)):
+            out = self._note("cmd", raw, text)
         return out
 
     def done(self, raw):
         line = self._hex_line("done", raw)
-        return self._note(line, "done", b"", self.pair.ask(line))
+        return self._note("done", b"", self.pair.ask(line))
 
     def fail(self):
-        return self._note(b"fail", "fail", b"", self.pair.ask(b"fail"))
+        return self._note("fail", b"", self.pair.ask(b"fail"))
 
     def on(self, interface):
         line = b"on %d" % interface
-        return self._note(line, "on", b"", self.pair.ask(line))
+        return self._note("on", b"", self.pair.ask(line))
 
     def set_session(self, session):
         line = self._hex_line("session", session.write())
-        answer = self._note(line, "session", b"", self.pair.ask(line))
+        answer = self._note("session", b"", self.pair.ask(line))
         self.must(answer, "ok")
         self.session = session
         return answer
 
     def buffer(self, name, raw):
         line = self._hex_line(name, raw)
-        answer = self._note(line, name, b"", self.pair.ask(line))
+        answer = self._note(name, b"", self.pair.ask(line))
         self.must(answer, "ok")
         if name == "work":
             self.work_whole = len(raw) == WORK_BYTES
@@ -107,7 +106,7 @@ class Driver:
 
     def put(self, name, offset, raw):
         line = b"put %s %d " % (name.encode(), offset) + self._case(hexed(raw))
-        answer = self._note(line, "put " + name, b"", self.pair.ask(line))
+        answer = self._note("put " + name, b"", self.pair.ask(line))
         self.must(answer, "ok")
         return answer
 

@@ -64,8 +64,8 @@ class Lines:
             return apdu(r.choice((0x00, 0x10)), 0xDB, 0x3F, 0xFF, tlv(0x7E, b"abc"))
         if kind == 22:
             return r.randbytes(r.randrange(1, 280))
-        raw = bytearray(apdu(0x00, r.choice((0xA4, 0xCB, 0xC0, 0x87, 0xDB, 0x20)), r.choice((0x00, 0x04, 0x3F)), r.choice((0x00, 0x80, 0xFF)),
-                             r.randbytes(r.randrange(20)), self.le()))
+        raw = bytearray(apdu(0x00, r.choice((0xA4, 0xCB, 0xC0, 0x87, 0xDB, 0x20)), r.choice((0x00, 0x04, 0x3F)),
+                             r.choice((0x00, 0x80, 0xFF)), r.randbytes(r.randrange(20)), self.le()))
         raw[r.randrange(len(raw))] ^= 1 << r.randrange(8)
         return bytes(raw)
 
@@ -89,12 +89,8 @@ def special_texts(random):
     """Inputs at the edges of what a line is."""
     return [
         b"",
-        b"\n",
-        b"00200080",
         b"\n\n00200080\n\n0",
-        b"00200080\r\n00200080\r\n",
+        b"00200080\r\n00200080\r\n" + b"\x00" * 3000 + b"\n" + b"00200080\x00\n" + bytes(range(256)) * 8 + b"\n" +
+        random.randbytes(60000) + b"\n00200080",
         b"00" * 200000 + b"\n00200080\n" + b"0" * 200001 + b"\n" + b"00" * 200000 + b"g0\n00200080\n" + b"0g" + b"00" * 100000,
-        random.randbytes(60000),
-        b"\x00" * 3000 + b"\n" + b"00200080\x00\n",
-        bytes(range(256)) * 8,
     ]

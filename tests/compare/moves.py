@@ -1,6 +1,6 @@
 """The random part: episodes of weighted moves over a random card, steered by what the answers tell."""
 from book import key_field, result_lengths, crossing_lines, edge_lengths
-from cards import SLOT, SLOTS, KEYS, PIN_KEYS, FULL_AID, WORK_BYTES, STORE_BYTES, Session, apdu, tlv, hexed, CONTACT, CONTACTLESS
+from cards import CONTACT, CONTACTLESS, FULL_AID, KEYS, PIN_KEYS, SLOTS, STORE_BYTES, WORK_BYTES, Session, apdu, hexed
 
 WEIGHT_OF_LE = (0, 0, 0, 0, 1, 5, 11, 12, 13, 50, 100, 200, 254, 255)
 ALL_INS = (0xA4, 0xCB, 0xC0, 0x20, 0x24, 0x2C, 0x87, 0xDB)
@@ -173,7 +173,8 @@ class Player:
                 out[0] = r.choice((0x00, 0x10, 0x0C, 0x1C, 0x80, 0x01))
             else:
                 where = r.randrange(min(len(out), 5))
-                out[where] = r.choice((0x00, 0x10, 0x20, 0x24, 0x2C, 0x3F, 0x80, 0x81, 0x87, 0x9A, 0x9B, 0x9E, 0xA4, 0xC0, 0xCB, 0xDB, 0xFF))
+                out[where] = r.choice((0x00, 0x10, 0x20, 0x24, 0x2C, 0x3F, 0x80, 0x81, 0x87, 0x9A, 0x9B, 0x9E, 0xA4, 0xC0, 0xCB,
+                                       0xDB, 0xFF))
         return bytes(out)
 
     def damaged(self):
@@ -223,8 +224,8 @@ class Player:
         """Perhaps something between two steps."""
         if not self.chance(p):
             return
-        self.random.choices((self.crossing, self.damaged, self.noise, self.bad_line, self.refused_result, self.any_call, self.dirty_work),
-                            (5, 3, 1, 1, 2, 4, 1))[0]()
+        self.random.choices((self.crossing, self.damaged, self.noise, self.bad_line, self.refused_result, self.any_call,
+                             self.dirty_work), (5, 3, 1, 1, 2, 4, 1))[0]()
 
     def patience(self):
         """How often a run of steps is disturbed."""
@@ -304,7 +305,6 @@ class Player:
         broken = self.chance(0.15)
         if broken:
             field = self.damage(field[:20]) + field[20:]
-        known = dict(d.objects)
         if p == 0 and not broken:
             answer = d.put_object(slot, value, self.random.choice((255, 255, 255, self.random.randrange(100, 256))))
             if answer.word == "9000" and slot.contactless and self.chance(0.3):
@@ -318,7 +318,7 @@ class Player:
             if answer.word != "9000" and self.chance(0.7):
                 return
             self.between(p)
-        answer = d.cmd(apdu(0x00, 0xDB, 0x3F, 0xFF, field[at:at + 255]))
+        d.cmd(apdu(0x00, 0xDB, 0x3F, 0xFF, field[at:at + 255]))
 
     def key(self):
         d = self.d
@@ -556,7 +556,8 @@ class Player:
         elif kind == 1:
             line = b"cmd " + hexed(self.good_command())[:-1]
         elif kind == 2:
-            line = r.choice((b"cmd", b"on", b"fail ", b"done", b"session 00", b"put store 33400 00", b"put work 99999 00", b"resp", b"on 2"))
+            line = r.choice((b"cmd", b"on", b"fail ", b"done", b"session 00", b"put store 33400 00", b"put work 99999 00",
+                             b"resp", b"on 2"))
         elif kind == 3:
             raw = bytearray(b"cmd " + hexed(self.good_command()))
             raw[r.randrange(4, len(raw))] = r.choice(b" gG\r\t\x00\xffx-")

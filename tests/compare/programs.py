@@ -21,6 +21,9 @@ class Difference(Exception):
         self.right = right
 
 
+LATER_PATIENCE = 60  # seconds for each answer after the first: a program may be slow to start, not to answer
+
+
 class Program:
     """A program that answers one line for each line. An answer of None: it ended before."""
 
@@ -32,31 +35,38 @@ class Program:
                                         stderr=self.errors, bufsize=1 << 18)
         self.silent = False
         self.closed = False
-        self.waiting_since = None
+        self.waiting_since = None  # for an answer
+        self.writing_since = None  # to a program that reads no more
         threading.Thread(target=self._watch, daemon=True).start()
 
     def _watch(self):
-        """Ends the program if it lets us wait too long for an answer."""
+        """Ends the program if it lets us wait too long."""
         while self.process.poll() is None:
-            since = self.waiting_since
-            if since is not None and time.monotonic() - since > self.patience:
-                self.silent = True
-                self.process.kill()
-                return
+            for since in (self.waiting_since, self.writing_since):
+                if since is not None and time.monotonic() - since > self.patience:
+                    self.silent = True
+                    self.process.kill()
+                    return
             time.sleep(0.5)
 
     def write(self, data):
+        self.writing_since = time.monotonic()
         try:
             self.process.stdin.write(data)
             self.process.stdin.flush()
         except (BrokenPipeError, ValueError):
             pass
+        self.writing_since = None
 
     def read(self):
         self.waiting_since = time.monotonic()
         line = self.process.stdout.readline()
-        self.waiting_since = None
+        self.answered()
         return line[:-1] if line.endswith(b"\n") else None
+
+    def answered(self):
+        self.waiting_since = None
+        self.patience = min(self.patience, LATER_PATIENCE)
 
     def close_input(self):
         try:
@@ -175,7 +185,7 @@ class Pair:
                         return
                     self.left.waiting_since = time.monotonic()
                     self.ready.wait()
-                self.left.waiting_since = None
+                self.left.answered()
                 left = self.answers.popleft() if self.answers else None
             right = self.expected.popleft()
             if left is None or left != right:
