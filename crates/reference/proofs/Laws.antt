@@ -2,6 +2,7 @@
 --
 --   all-on all-off all-end   a row tested from a place on: the element there passes, or not, or none is left
 --   number-same              two stretches have the same number exactly where they are the same bytes
+--   whole                    a row replaced whole
 --   value-length             the value of a record has eight bytes
 --   reference-lent           the record in ten bytes of a store is the store's
 --   put-lent                 a record written to the ten bytes is written to the store
@@ -58,8 +59,7 @@ number-same {f} {k} {m} n s t hs ht a b la lb = go (eqb (f s a) (f t b)) refl (s
 
 -- ---- a record lent
 
--- a row replaced whole
-whole : (s v : List ℕ) → length s ≤ length v → splice s 0 v ≡ v
+pub whole : (s v : List ℕ) → length s ≤ length v → splice s 0 v ≡ v
 unfolding splice
 whole s v h = simp (zero-add, drop-of-length-le s h, append-nil)
 
