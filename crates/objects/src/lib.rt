@@ -1,99 +1,23 @@
-// SELECT, GET DATA and GET RESPONSE (01, under these names). Each command's function mirrors its rule line by line.
+// GET DATA (01, "GET DATA"): what is asked for, whether it may be read now, and the object as it goes out.
 use rules::Asked;
 use rules::Found;
 use rules::Header;
 use rules::Reply;
-use rules::Rest;
 use rules::Session;
 ghost use mathlib.Core.Path.{_≡_};
-ghost use mathlib.Core.Bool.{Bool, true, _||_};
+ghost use mathlib.Core.Bool.{true};
 ghost use mathlib.Core.List.{List};
-ghost use Prim.Native.Nat.{ℕ, _+_, _≤_, _<_};
-ghost use lib.ListN.{length, take};
-ghost use Rattle.rules.specs.Bytes.{sameBytes};
-ghost use Rattle.rules.specs.Session.{state, heldLength, restOk};
-ghost use Rattle.rules.specs.Objects.{aid, template, select, tagIn, askedIn, getResponse};
-ghost use Rattle.rules.specs.Command.{says};
-ghost use Rattle.rules.specs.Held.{dropped};
+ghost use Prim.Native.Nat.{ℕ, _≤_, _<_};
+ghost use lib.ListN.{length};
+ghost use Rattle.rules.specs.Store.{wellFormed};
+ghost use Rattle.rules.specs.Session.{state};
+ghost use Rattle.rules.specs.Objects.{askedIn, objectTag, giveObject, getSlot, getData};
 ghost use Rattle.rules.specs.Calls.{outcome, delivered};
 
-const AID: [u8; 11] = [
-    0xA0,
-    0x00,
-    0x00,
-    0x03,
-    0x08,
-    0x00,
-    0x00,
-    0x10,
-    0x00,
-    0x01,
-    0x00,
-];
-
-// 61{4F full AID, 79{4F A000000308}}
-const TEMPLATE: [u8; 24] = [
-    0x61,
-    0x16,
-    0x4F,
-    0x0B,
-    0xA0,
-    0x00,
-    0x00,
-    0x03,
-    0x08,
-    0x00,
-    0x00,
-    0x10,
-    0x00,
-    0x01,
-    0x00,
-    0x79,
-    0x07,
-    0x4F,
-    0x05,
-    0xA0,
-    0x00,
-    0x00,
-    0x03,
-    0x08,
-];
-
-// ---- SELECT
-
-// The whole identifier or its first nine bytes.
-fn ours(d: &[u8]) -> bool
-    ensures { λ r. ⌜ r ≡ (sameBytes (now (d .entry)) aid || sameBytes (now (d .entry)) (take 9 aid)) ⌝ }
-{
-    let whole = AID;
-    if octets::same(d, &whole) {
-        return true;
-    }
-    octets::same(d, &whole[..9])
-}
-
-pub fn select(s: Session, work: &mut [u8], resp: &mut [u8], h: Header, field: &[u8]) -> Reply
-    requires { ⌜ (h .le ≤ 256) × (258 ≤ length (now resp)) × (length (now work) ≡ 13321) ⌝ }
-    ensures { λ r. ⌜ ((m : List ℕ) → outcome r m (now (work .exit)) (now (resp .exit)) ≡ (delivered (now (resp .entry)) (select (state m (now (work .entry)) s) h (now (field .entry)))) .outcome) ⌝ }
-{
-    if h.p1 != 0x04 {
-        return held::say(s, resp, 0x6A86);
-    }
-    if h.p2 != 0x00 {
-        return held::say(s, resp, 0x6A86);
-    }
-    if !ours(field) {
-        return held::say(s, resp, 0x6A82);
-    }
-    let le = h.le;
-    let template = TEMPLATE;
-    held::send(s, work, resp, le, &template, &field[..0])
-}
-
-// ---- GET DATA
+// ---- what is asked for
 
 // 5C 03 and three bytes, or 5C 01 7E, and no more.
-pub fn asked_in(d: &[u8]) -> Asked
+fn asked_in(d: &[u8]) -> Asked
     ensures { λ r. ⌜ r ≡ askedIn (now (d .entry)) ⌝ }
 {
     let Found::Value { from, len } = ber::read_last(d, 0, 0x5C) else {
@@ -111,34 +35,78 @@ pub fn asked_in(d: &[u8]) -> Asked
     Asked::Slot(11)
 }
 
-// ---- GET RESPONSE
+// ---- the object as it goes out
 
-// Any GET RESPONSE that hands nothing out drops the rest.
-fn nothing_out(s: Session, work: &mut [u8], resp: &mut [u8], sw: u16) -> Reply
-    requires { ⌜ (258 ≤ length (now resp)) × (heldLength s ≤ 13321) × (length (now work) ≡ 13321) ⌝ }
-    ensures { λ r. ⌜ ((m : List ℕ) → outcome r m (now (work .exit)) (now (resp .exit)) ≡ (delivered (now (resp .entry)) (says (dropped (state m (now (work .entry)) s)) sw)) .outcome) ⌝ }
+// Tag 53 (7E for Discovery).
+fn object_tag(slot: usize) -> u8
+    ensures { λ r. ⌜ r ≡ objectTag slot ⌝ }
 {
-    let t = held::drop_held(s, work);
-    held::say(t, resp, sw)
+    if slot == 11 {
+        return 0x7E;
+    }
+    0x53
 }
 
-pub fn get_response(s: Session, work: &mut [u8], resp: &mut [u8], h: Header, field: &[u8]) -> Reply
-    requires { ⌜ (h .le ≤ 256) × (258 ≤ length (now resp)) × (restOk (s .rest) ≡ true) × (heldLength s ≤ 13321) × (length (now work) ≡ 13321) ⌝ }
-    ensures { λ r. ⌜ ((m : List ℕ) → outcome r m (now (work .exit)) (now (resp .exit)) ≡ (delivered (now (resp .entry)) (getResponse (state m (now (work .entry)) s) h (now (field .entry)))) .outcome) ⌝ }
+fn give_object(
+    s: Session,
+    work: &mut [u8],
+    resp: &mut [u8],
+    le: usize,
+    slot: usize,
+    v: &[u8],
+) -> Reply
+    requires { ⌜ (le ≤ 256) × (258 ≤ length (now resp)) × (length (now v) ≤ 13312) × (length (now work) ≡ 13321) ⌝ }
+    ensures { λ r. ⌜ ((m : List ℕ) → outcome r m (now (work .exit)) (now (resp .exit)) ≡ (delivered (now (resp .entry)) (giveObject (state m (now (work .entry)) s) le slot (now (v .entry)))) .outcome) ⌝ }
 {
-    if h.p1 != 0x00 {
-        return nothing_out(s, work, resp, 0x6A86);
+    if v.len() == 0 {
+        return held::say(s, resp, 0x6A82);
     }
-    if h.p2 != 0x00 {
-        return nothing_out(s, work, resp, 0x6A86);
+    let mut head = [0u8; 4];
+    let n = ber::write_head(&mut head, 0, object_tag(slot), v.len());
+    held::send(s, work, resp, le, &head[..n], v)
+}
+
+// Tag not in the table: 6A82; reading not allowed now: 6982, whether or not there is an object.
+fn get_slot(
+    s: Session,
+    store: &[u8],
+    work: &mut [u8],
+    resp: &mut [u8],
+    le: usize,
+    slot: usize,
+) -> Reply
+    requires { ⌜ (le ≤ 256) × (258 ≤ length (now resp)) × (wellFormed (now store) ≡ true) × (length (now work) ≡ 13321) ⌝ }
+    ensures { λ r. ⌜ outcome r (now (store .entry)) (now (work .exit)) (now (resp .exit)) ≡ (delivered (now (resp .entry)) (getSlot (state (now (store .entry)) (now (work .entry)) s) le slot)) .outcome ⌝ }
+{
+    if 12 <= slot {
+        return held::say(s, resp, 0x6A82);
     }
-    if field.len() != 0 {
-        return nothing_out(s, work, resp, 0x6700);
+    if !table::readable(s, slot) {
+        return held::say(s, resp, 0x6982);
     }
-    let rest = s.rest;
-    let Rest::Left { whole, fetched } = rest else {
-        return nothing_out(s, work, resp, 0x6985);
+    give_object(s, work, resp, le, slot, store::object(store, slot))
+}
+
+pub fn get_data(
+    s: Session,
+    store: &[u8],
+    work: &mut [u8],
+    resp: &mut [u8],
+    h: Header,
+    field: &[u8],
+) -> Reply
+    requires { ⌜ (h .le ≤ 256) × (258 ≤ length (now resp)) × (wellFormed (now store) ≡ true) × (length (now work) ≡ 13321) ⌝ }
+    ensures { λ r. ⌜ outcome r (now (store .entry)) (now (work .exit)) (now (resp .exit)) ≡ (delivered (now (resp .entry)) (getData (state (now (store .entry)) (now (work .entry)) s) h (now (field .entry)))) .outcome ⌝ }
+{
+    if h.p1 != 0x3F {
+        return held::say(s, resp, 0x6A86);
+    }
+    if h.p2 != 0xFF {
+        return held::say(s, resp, 0x6A86);
+    }
+    let Asked::Slot(slot) = asked_in(field) else {
+        return held::say(s, resp, 0x6A80);
     };
     let le = h.le;
-    held::fetch(s, work, resp, le, whole, fetched)
+    get_slot(s, store, work, resp, le, slot)
 }

@@ -10,6 +10,7 @@
 --   all-true-append        two rows of tests, one behind the other
 --   at-each all-below      `allBelow`, at each number
 --   by-order by-equal      by cases of two numbers
+--   p1-off p2-off both-on  the test "P1 P2 not .." by two tests of the code
 --
 -- Assumes nothing.
 use mathlib.Core.Path.{_≡_, refl, sym, ap, _∙_}
@@ -20,7 +21,7 @@ use Prim.Native.Nat.{ℕ, zero, suc, _≤_, _<_}
 use native.Mathlib.Omega.{arith}
 use lib.Dec.{ltb, eqb}
 use lib.ListN.{getD}
-use borrow.Author.Tests.{eqb-true, eqb-false, ltb-true, ltb-false, not-true, not-false}
+use borrow.Author.Tests.{eqb-true, eqb-false, ltb-true, ltb-false, not-true, not-false, eq-eqb, ne-eqb}
 use Rattle.rules.specs.Bytes.{iff, allTrue, allBelow}
 
 -- ---- iff
@@ -130,3 +131,15 @@ by-equal {C} a b f g = go (eqb a b) refl
     go : (t : Bool) → eqb a b ≡ t → C
     go true e = f (eqb-true a b e)
     go false e = g (eqb-false a b e)
+
+-- ---- two bytes tested together
+
+module _ (a b x y : ℕ) where
+  pub p1-off : (a ≡ x → ⊥) → not (eqb a x && eqb b y) ≡ true
+  p1-off h = ap not (and-off-left (eqb a x) (eqb b y) (ne-eqb a x h))
+
+  pub p2-off : (b ≡ y → ⊥) → not (eqb a x && eqb b y) ≡ true
+  p2-off h = ap not (and-off-right (eqb a x) (eqb b y) (ne-eqb b y h))
+
+  pub both-on : a ≡ x → b ≡ y → not (eqb a x && eqb b y) ≡ false
+  both-on p q = ap not (and-both (eqb a x) (eqb b y) (eq-eqb a x p) (eq-eqb b y q))

@@ -3,8 +3,8 @@
 use mathlib.Core.Path.{sym, _∙_}
 use Rattle.rules.proofs.Tests.{or-left}
 use borrow.Author.Needs.{needs}
-use Rattle.objects.proofs.ours.Statement.{statement}
-use Rattle.objects.proofs.ours.Tie as tie
+use Rattle.answers.proofs.ours.Statement.{statement}
+use Rattle.answers.proofs.ours.Tie as tie
 
 slice-aggregate-same : tie.Need-slice-aggregate-same
 slice-aggregate-same c = search needs

@@ -8,10 +8,10 @@ use Rattle.rules.specs.Session.{state}
 use Rattle.rules.specs.Objects.{template}
 use Rattle.rules.proofs.Tests.{negated}
 use Rattle.held.proofs.Laws.{delivers}
-use Rattle.objects.proofs.Laws.{select-p1, select-p2, select-aid, select-ok}
+use Rattle.answers.proofs.Laws.{select-p1, select-p2, select-aid, select-ok}
 use borrow.Author.Needs.{needs}
-use Rattle.objects.proofs.select.Statement.{statement}
-use Rattle.objects.proofs.select.Tie as tie
+use Rattle.answers.proofs.select.Statement.{statement}
+use Rattle.answers.proofs.select.Tie as tie
 
 say-requires : tie.Need-say-requires
 say-requires c κs = search needs

@@ -5,8 +5,8 @@ use Rattle.rules.specs.Session.{State}
 use Rattle.rules.specs.Command.{says}
 use Rattle.rules.specs.Calls.{delivered}
 use borrow.Author.Needs.{needs}
-use Rattle.objects.proofs.nothing_out.Statement.{statement}
-use Rattle.objects.proofs.nothing_out.Tie as tie
+use Rattle.answers.proofs.nothing_out.Statement.{statement}
+use Rattle.answers.proofs.nothing_out.Tie as tie
 
 drop-held-requires : tie.Need-drop-held-requires
 drop-held-requires c κs = search needs

@@ -4,10 +4,10 @@ use mathlib.Core.Path.{_∙_}
 use native.Mathlib.Omega.{arith}
 use Rattle.rules.specs.Session.{state}
 use Rattle.held.proofs.Laws.{delivers}
-use Rattle.objects.proofs.Laws.{response-p1, response-p2, response-data, response-none, response-some, rest-fits}
+use Rattle.answers.proofs.Laws.{response-p1, response-p2, response-data, response-none, response-some, rest-fits}
 use borrow.Author.Needs.{needs}
-use Rattle.objects.proofs.get_response.Statement.{statement}
-use Rattle.objects.proofs.get_response.Tie as tie
+use Rattle.answers.proofs.get_response.Statement.{statement}
+use Rattle.answers.proofs.get_response.Tie as tie
 
 nothing-out-requires : tie.Need-nothing-out-requires
 nothing-out-requires c κs = search needs
