@@ -13,6 +13,7 @@
 --   object-inside last-inside    it lies inside; of a last object it is the end
 --   length-tlv          the length of an object as it is written
 --   splice-tlv          a head and the value written right behind it are the object
+--   Head head-written   a head written at the start of a small buffer, as its prefix is handed on
 --   object-read         an object that was written is read back
 --   value-read          and so is its value
 --   last-read           the same of an object with which the row ends
@@ -24,8 +25,8 @@ use mathlib.Core.List.{List, [], _∷_, _++_, append-assoc, append-nil}
 use Prim.Native.Nat.{ℕ, _+_, _^_, _≤_, _<_}
 use native.Mathlib.Omega.{arith}
 use lib.Dec.{ltb, leb, eqb}
-use lib.ListN.{length, getD, length-append}
-use lib.Seq.{getD-append-seam}
+use lib.ListN.{length, take, getD, length-append}
+use lib.Seq.{getD-append-seam, take-at}
 use borrow.Author.Tests.{lt-leb, lt-ltb, le-ltb, eq-eqb, ne-eqb, eqb-true, ltb-false}
 use Rattle.rules.specs.declared.Length.{Length}
 use Rattle.rules.specs.declared.Length.the-variants.{Is, Bad}
@@ -36,7 +37,7 @@ use Rattle.rules.specs.Ber.{lengthBytes, berLength, announced, lengthValue, len
 use Rattle.rules.specs.Ber.{valueFrom, objectAt, ending, lastAt, tlv}
 use Rattle.rules.specs.Claims.Lengths.{room, Bytes}
 use Rattle.rules.proofs.Tests.{on, off, or-left, or-right, or-none, by-order, by-equal}
-use Rattle.rules.proofs.Lists.{part-head}
+use Rattle.rules.proofs.Lists.{part-head, length-splice}
 use Rattle.rules.proofs.Lengths.{counted, form-length, form-read, Read, read-is}
 use Rattle.octets.proofs.Laws.{splice-next}
 use Rattle.octets.proofs.Numbers.{number16}
@@ -198,3 +199,22 @@ module _ (tag : ℕ) (v : List ℕ) (h : length v < 65536) where
   last-read b =
       let e = rw append-nil at (object-read b []) in
       rw e (on _ _ _ (eq-eqb _ _ (ends b)))
+
+-- ---- a head in a buffer of its own
+
+pub record Head (l : List ℕ) (r tag n : ℕ) : Type 0 where
+  pub fits : r ≤ length l
+  pub short : r ≤ 4
+  pub count : length (take r l) ≡ r
+  pub taken : take r l ≡ tag ∷ berLength n
+
+pub head-written : (l s : List ℕ) (r tag n : ℕ) → n < 65536 → 4 ≤ length s
+    → r ≡ 0 + 1 + lengthBytes n → l ≡ splice s 0 (tag ∷ berLength n) → Head l r tag n
+unfolding splice
+head-written l s r tag n h hs e q =
+    let b : length (berLength n) ≡ lengthBytes n = length-ber n h in
+    let m : lengthBytes n ≤ 3 = one-to-three n .1 in
+    let k : length (tag ∷ berLength n) ≡ r = omega arith in
+    let t : take r l ≡ tag ∷ berLength n = ap (take r) q ∙ take-at (tag ∷ berLength n) _ r k in
+    let g : length l ≡ length s = ap length q ∙ length-splice s (tag ∷ berLength n) 0 (omega arith) in
+    record { fits = omega arith; short = omega arith; count = ap length t ∙ k; taken = t }

@@ -1,60 +1,66 @@
+-- The tests on the slot, in their order: the access condition before the object.
+-- Assumes nothing.
+use mathlib.Core.Path.{ap, _∙_}
+use mathlib.Core.List.{List}
+use Prim.Native.Nat.{ℕ}
+use native.Mathlib.Omega.{arith}
+use Rattle.rules.specs.Session.{state}
+use Rattle.rules.specs.Objects.{giveObject}
+use Rattle.rules.specs.Calls.{delivered, outcome}
+use Rattle.rules.proofs.Tests.{negated}
+use Rattle.held.proofs.Laws.{delivers}
+use Rattle.objects.proofs.Laws.{slot-unknown, slot-barred, slot-given, object-short}
 use borrow.Author.Needs.{needs}
 use Rattle.objects.proofs.get_slot.Statement.{statement}
 use Rattle.objects.proofs.get_slot.Tie as tie
-use Rattle.objects.proofs.get_slot.Reads as reads
-use Rattle.objects.proofs.get_slot.Lts as lts
-use Rattle.held.proofs.say.Reads as say-reads
-use Rattle.objects.proofs.give_object.Reads as give-object-reads
-use Rattle.store.proofs.object.Reads as object-reads
-use Rattle.table.proofs.readable.Reads as readable-reads
 
--- src/lib.rt:82:9
 say-requires : tie.Need-say-requires
 say-requires c κs = search needs
 
--- src/lib.rt:82:9
 same-length : tie.Need-same-length
 same-length c = search needs
 
--- src/lib.rt:82:9
 returns : tie.Need-returns
-returns c = ?
+returns c =
+    let a = c .before .before .before .before .before .before .before .before .args in
+    c .before .before .say .ensures (a .store .now) (a .work .now) ∙ delivers (a .resp .now) (slot-unknown (state (a .store .now) (a .work .now) (a .s)) (a .le) (a .slot) (c .before .before .before .before .if1 .taken))
 
--- src/lib.rt:84:9
 readable-requires : tie.Need-readable-requires
 readable-requires c κs = search needs
 
--- src/lib.rt:85:9
 say-requires-2 : tie.Need-say-requires-2
 say-requires-2 c κs = search needs
 
--- src/lib.rt:85:9
 same-length-2 : tie.Need-same-length-2
 same-length-2 c = search needs
 
--- src/lib.rt:85:9
 returns-2 : tie.Need-returns-2
-returns-2 c = ?
+returns-2 c =
+    let a = c .before .before .before .before .before .before .before .before .before .before .args in
+    c .before .before .say2 .ensures (a .store .now) (a .work .now)
+    ∙ delivers (a .resp .now) (slot-barred (state (a .store .now) (a .work .now) (a .s)) (a .le) (a .slot) (c .before .before .before .before .before .before .if1 .left) (negated (c .before .before .before .before .before .readable .ensures) (c .before .before .before .before .if2 .taken)))
 
--- src/lib.rt:87:42
 object-requires : tie.Need-object-requires
 object-requires c κs = search needs
 
--- src/lib.rt:87:5
 give-object-requires : tie.Need-give-object-requires
-give-object-requires c κs = ?
+give-object-requires c κs =
+    let i = c .before .before .before .before .before .before .before .before .before in
+    omega (arith, object-short (i .args .store .now) _ (i .args .slot) (i .pre .2) (c .before .before .before .before .before .if1 .left) (c .object .ensures), i .pre)
 
--- src/lib.rt:70:1
 same-length-3 : tie.Need-same-length-3
 same-length-3 c = search needs
 
--- src/lib.rt:70:1
 same-length-4 : tie.Need-same-length-4
 same-length-4 c = search needs
 
--- src/lib.rt:70:1
 returns-3 : tie.Need-returns-3
-returns-3 c = ?
+returns-3 c =
+    let a = c .before .before .before .before .before .before .before .before .before .before .before .before .before .before .args in
+    let st = state (a .store .now) (a .work .now) (a .s) in
+    c .before .before .before .before .give-object .ensures (a .store .now)
+    ∙ ap (λ (v : List ℕ). (delivered (a .resp .now) (giveObject st (a .le) (a .slot) v)) .outcome) (c .before .before .before .before .before .object .ensures)
+    ∙ delivers (a .resp .now) (slot-given st (a .le) (a .slot) (c .before .before .before .before .before .before .before .before .before .before .if1 .left) (negated (c .before .before .before .before .before .before .before .before .before .readable .ensures) (c .before .before .before .before .before .before .before .before .if2 .left)))
 
 pub get-slot-spec : {M : Type 1} → statement M
 get-slot-spec =

@@ -1,60 +1,81 @@
+-- No object, or the object behind its head.
+-- Assumes nothing.
+use mathlib.Core.Path.{ap, sym, _∙_}
+use mathlib.Core.List.{List, _++_}
+use Prim.Native.Nat.{ℕ}
+use native.Mathlib.Omega.{arith}
+use lib.ListN.{length}
+use Rattle.rules.specs.Ber.{tlv, berLength}
+use Rattle.rules.specs.Session.{state}
+use Rattle.rules.specs.Held.{send}
+use Rattle.rules.specs.Calls.{delivered, outcome}
+use Rattle.held.proofs.Laws.{delivers}
+use Rattle.ber.proofs.Laws.{head-written}
+use Rattle.objects.proofs.Laws.{give-none, give-some}
+use mathlib.Core.List.{_∷_}
 use borrow.Author.Needs.{needs}
 use Rattle.objects.proofs.give_object.Statement.{statement}
 use Rattle.objects.proofs.give_object.Tie as tie
-use Rattle.objects.proofs.give_object.Reads as reads
-use Rattle.objects.proofs.give_object.Lts as lts
-use Rattle.ber.proofs.write_head.Reads as write-head-reads
-use Rattle.held.proofs.say.Reads as say-reads
-use Rattle.held.proofs.send.Reads as send-reads
-use Rattle.objects.proofs.object_tag.Reads as object-tag-reads
 
--- src/lib.rt:62:9
 say-requires : tie.Need-say-requires
 say-requires c κs = search needs
 
--- src/lib.rt:62:9
 same-length : tie.Need-same-length
 same-length c = search needs
 
--- src/lib.rt:62:9
 returns : tie.Need-returns
-returns c = ?
+returns c = λ m.
+    let a = c .before .before .before .before .before .before .before .before .args in
+    c .before .before .say .ensures m (a .work .now) ∙ delivers (a .resp .now) (give-none (state m (a .work .now) (a .s)) (a .le) (a .slot) (a .v .now) (c .before .before .before .before .if1 .taken))
 
--- src/lib.rt:65:29
 slice-aggregate-write-head : tie.Need-slice-aggregate-write-head
 slice-aggregate-write-head c = search needs
 
--- src/lib.rt:65:43
 object-tag-requires : tie.Need-object-tag-requires
 object-tag-requires c κs = search needs
 
--- src/lib.rt:65:9
 write-head-requires : tie.Need-write-head-requires
 write-head-requires c κs = search needs
 
--- src/lib.rt:66:35
 array-share-prefix-head : tie.Need-array-share-prefix-head
-array-share-prefix-head c = ?
+array-share-prefix-head c =
+    let i = c .before .before .before .before .before .before .before .before .before .before in
+    let k = c .before .before .before .write-head in
+    let h = head-written (k .last .0) _ (k .result) _ (length (i .args .v .now)) (omega (arith, i .pre)) (omega arith) (k .ensures .0) (k .ensures .1) in
+    h .fits
 
--- src/lib.rt:66:35
 slice-aggregate-send : tie.Need-slice-aggregate-send
-slice-aggregate-send c = ?
+slice-aggregate-send c =
+    let i = c .before .before .before .before .before .before .before .before .before .before .before in
+    let k = c .before .before .before .before .write-head in
+    let h = head-written (k .last .0) _ (k .result) _ (length (i .args .v .now)) (omega (arith, i .pre)) (omega arith) (k .ensures .0) (k .ensures .1) in
+    sym (h .count)
 
--- src/lib.rt:66:5
 send-requires : tie.Need-send-requires
-send-requires c κs = ?
+send-requires c κs =
+    let i = c .before .before .before .before .before .before .before .before .before .before .before in
+    let k = c .before .before .before .before .write-head in
+    let h = head-written (k .last .0) _ (k .result) _ (length (i .args .v .now)) (omega (arith, i .pre)) (omega arith) (k .ensures .0) (k .ensures .1) in
+    omega (arith, h .count, h .short, i .pre)
 
--- src/lib.rt:50:1
 same-length-2 : tie.Need-same-length-2
 same-length-2 c = search needs
 
--- src/lib.rt:50:1
 same-length-3 : tie.Need-same-length-3
 same-length-3 c = search needs
 
--- src/lib.rt:50:1
 returns-2 : tie.Need-returns-2
-returns-2 c = ?
+unfolding tlv
+returns-2 c = λ m.
+    let i = c .before .before .before .before .before .before .before .before .before .before .before .before .before .before .before .before in
+    let k = c .before .before .before .before .before .before .before .before .before .write-head in
+    let h = head-written (k .last .0) _ (k .result) _ (length (i .args .v .now)) (omega (arith, i .pre)) (omega arith) (k .ensures .0) (k .ensures .1) in
+    let a = i .args in
+    let st = state m (a .work .now) (a .s) in
+    let e = h .taken ∙ ap (λ (t : ℕ). t ∷ berLength (length (a .v .now))) (c .before .before .before .before .before .before .before .before .before .before .object-tag .ensures) in
+    c .before .before .before .before .send .ensures m
+    ∙ ap (λ (l : List ℕ). (delivered (a .resp .now) (send st (a .le) (l ++ a .v .now))) .outcome) e
+    ∙ delivers (a .resp .now) (give-some st (a .le) (a .slot) (a .v .now) (c .before .before .before .before .before .before .before .before .before .before .before .before .if1 .left))
 
 pub give-object-spec : {M : Type 1} → statement M
 give-object-spec =

@@ -1,15 +1,19 @@
+-- 7E for Discovery, else 53.
+-- Assumes nothing.
+use mathlib.Core.Path.{sym}
+use borrow.Author.Tests.{eq-eqb, ne-eqb}
+use Rattle.rules.specs.Objects.{objectTag}
+use Rattle.rules.proofs.Tests.{on, off}
 use Rattle.objects.proofs.object_tag.Statement.{statement}
 use Rattle.objects.proofs.object_tag.Tie as tie
-use Rattle.objects.proofs.object_tag.Reads as reads
-use Rattle.objects.proofs.object_tag.Lts as lts
 
--- src/lib.rt:45:9
 returns : tie.Need-returns
-returns c = ?
+unfolding objectTag
+returns c = sym (on _ _ _ (eq-eqb _ _ (c .if1 .taken)))
 
--- src/lib.rt:41:1
 returns-2 : tie.Need-returns-2
-returns-2 c = ?
+unfolding objectTag
+returns-2 c = sym (off _ _ _ (ne-eqb _ _ (c .if1 .left)))
 
 pub object-tag-spec : {M : Type 1} → statement M
 object-tag-spec = tie.close (tie.spec returns returns-2)
