@@ -10,8 +10,6 @@ ghost use Prim.Native.Nat.{ℕ, _≤_};
 ghost use lib.ListN.{length, take};
 ghost use Rattle.rules.specs.Bytes.{sameBytes};
 ghost use Rattle.rules.specs.Session.{state, heldLength, restOk};
-ghost use Rattle.rules.specs.Command.{says};
-ghost use Rattle.rules.specs.Held.{dropped};
 ghost use Rattle.rules.specs.Objects.{aid, select, getResponse};
 ghost use Rattle.rules.specs.Calls.{outcome, delivered};
 
@@ -91,30 +89,22 @@ pub fn select(s: Session, work: &mut [u8], resp: &mut [u8], h: Header, field: &[
 // ---- GET RESPONSE
 
 // Any GET RESPONSE that hands nothing out drops the rest.
-fn nothing_out(s: Session, work: &mut [u8], resp: &mut [u8], sw: u16) -> Reply
-    requires { ⌜ (258 ≤ length (now resp)) × (heldLength s ≤ 13321) × (length (now work) ≡ 13321) ⌝ }
-    ensures { λ r. ⌜ ((m : List ℕ) → outcome r m (now (work .exit)) (now (resp .exit)) ≡ (delivered (now (resp .entry)) (says (dropped (state m (now (work .entry)) s)) sw)) .outcome) ⌝ }
-{
-    let t = held::drop_held(s, work);
-    held::say(t, resp, sw)
-}
-
 pub fn get_response(s: Session, work: &mut [u8], resp: &mut [u8], h: Header, field: &[u8]) -> Reply
     requires { ⌜ (h .le ≤ 256) × (258 ≤ length (now resp)) × (restOk (s .rest) ≡ true) × (heldLength s ≤ 13321) × (length (now work) ≡ 13321) ⌝ }
     ensures { λ r. ⌜ ((m : List ℕ) → outcome r m (now (work .exit)) (now (resp .exit)) ≡ (delivered (now (resp .entry)) (getResponse (state m (now (work .entry)) s) h (now (field .entry)))) .outcome) ⌝ }
 {
     if h.p1 != 0x00 {
-        return nothing_out(s, work, resp, 0x6A86);
+        return held::drop_say(s, work, resp, 0x6A86);
     }
     if h.p2 != 0x00 {
-        return nothing_out(s, work, resp, 0x6A86);
+        return held::drop_say(s, work, resp, 0x6A86);
     }
     if field.len() != 0 {
-        return nothing_out(s, work, resp, 0x6700);
+        return held::drop_say(s, work, resp, 0x6700);
     }
     let rest = s.rest;
     let Rest::Left { whole, fetched } = rest else {
-        return nothing_out(s, work, resp, 0x6985);
+        return held::drop_say(s, work, resp, 0x6985);
     };
     let le = h.le;
     held::fetch(s, work, resp, le, whole, fetched)

@@ -5,28 +5,35 @@
 --   length-of-part         the length of a stretch that was read
 --   all-sent part-sent     an answer that fits Le, and one that does not
 --   part-fetched           more of a held response
+--   gathered-part          a last piece put behind the others: all of the chain, in a row
+--   zero-over              and then zeroed with them
+--   closed-state           the state after the last piece of an open chain
+--   shut-state             and after a command in one piece
+--   gathered-open gathered-shut    the bytes of the whole command
 --
 -- Assumes nothing.
 use mathlib.Core.Path.{_≡_, refl, ap, ap₂, sym, _∙_}
-use mathlib.Core.List.{List, _++_}
+use mathlib.Core.List.{List, [], _++_, append-assoc}
 use Prim.Native.Nat.{ℕ, _+_, _-_, _≤_, _<_}
 use native.Mathlib.Omega.{arith}
-use lib.ListN.{length, take, length-append}
-use lib.Seq.{length-take-le}
+use lib.ListN.{length, take, drop, length-append, length-take}
+use lib.Seq.{length-take-le, take-at, drop-at}
 use borrow.Author.Tests.{le-leb, lt-leb}
 use Rattle.rules.specs.declared.Answer.{Answer}
 use Rattle.rules.specs.declared.Answer.the-variants.{Response}
-use Rattle.rules.specs.declared.Chain.the-variants.{Shut}
-use Rattle.rules.specs.declared.Rest.the-variants.{Left}
+use Rattle.rules.specs.declared.Chain.{Chain}
+use Rattle.rules.specs.declared.Chain.the-variants.{Shut, Open}
+use Rattle.rules.specs.declared.Rest.the-variants.{Gone, Left}
 use Rattle.rules.specs.declared.Session.{Session}
 use Rattle.rules.specs.declared.Reply.{Reply}
-use Rattle.rules.specs.Bytes.{part, splice, word}
-use Rattle.rules.specs.Session.{state, holding}
+use Rattle.rules.specs.Bytes.{part, splice, zeros, zeroed, word}
+use Rattle.rules.specs.Session.{state, holding, chainLength}
 use Rattle.rules.specs.Command.{Made}
-use Rattle.rules.specs.Held.{leftWord, send, fetch}
+use Rattle.rules.specs.Held.{leftWord, send, fetch, gathered, closedWork, closed}
 use Rattle.rules.specs.Calls.{outcome, reply, delivered, toldBytes, toldAnswer}
 use Rattle.rules.proofs.Tests.{on, off}
 use Rattle.rules.proofs.Lists.{length-part}
+use Rattle.octets.proofs.Laws.{length-zeros}
 
 pub same-outcome : (r : Reply) (a : Answer) (ss : Session) (m : List ℕ) {w w′ b b′ : List ℕ}
     → r .answer ≡ a → r .session ≡ ss → w ≡ w′ → b ≡ b′ → outcome r m w b ≡ outcome (reply a ss) m w′ b′
@@ -66,3 +73,42 @@ module _ (s : Session) (m w resp : List ℕ) (le whole k : ℕ) where
       ap (λ (n : ℕ). outcome (reply (Response (n + 2)) (holding s Shut (Left whole (k + le)))) m w (splice resp 0 (part w k le ++ word (leftWord (whole - k - le)))))
       (sym (length-part w k le f))
       ∙ delivers resp (off _ _ _ (lt-leb _ _ l))
+
+-- ---- the last piece of a chain
+
+module _ (w d : List ℕ) (n : ℕ) (h : n + length d ≤ length w) where
+  pub gathered-part : part (splice w n d) 0 (n + length d) ≡ take n w ++ d
+  unfolding part splice
+  gathered-part =
+      ap (take (n + length d)) (sym (append-assoc (take n w) d (drop (n + length d) w)))
+      ∙ take-at (take n w ++ d) (drop (n + length d) w) (n + length d) (simp (length-append, length-take) (omega arith))
+
+  pub zero-over : splice (splice w n d) 0 (zeros (n + length d)) ≡ splice w 0 (zeros (n + length d))
+  unfolding splice
+  zero-over =
+      let z : List ℕ = zeros (n + length d) in
+      let l : length z ≡ n + length d = length-zeros (n + length d) in
+      let k : 0 + length z ≡ n + length d = omega arith in
+      let e : drop (n + length d) (take n w ++ (d ++ drop (n + length d) w)) ≡ drop (n + length d) w =
+      ap (drop (n + length d)) (sym (append-assoc (take n w) d (drop (n + length d) w)))
+      ∙ drop-at (take n w ++ d) (drop (n + length d) w) (n + length d) (simp (length-append, length-take) (omega arith)) in
+      ap (λ (j : ℕ). [] ++ (z ++ drop j (take n w ++ (d ++ drop (n + length d) w)))) k
+      ∙ ap (λ (l : List ℕ). [] ++ (z ++ l)) e
+      ∙ sym (ap (λ (j : ℕ). [] ++ (z ++ drop j w)) k)
+
+pub closed-state : (m w d : List ℕ) (s : Session) (ins p1 p2 n : ℕ) → s .chain ≡ Open ins p1 p2 n
+    → closed (state m w s) d ≡ state m (splice w 0 (zeros (n + length d))) (holding s Shut Gone)
+unfolding closed closedWork zeroed
+closed-state m w d s ins p1 p2 n e = ap (λ (c : Chain). state m (closedWork w c (length d)) (holding s Shut Gone)) e
+
+pub shut-state : (m w d : List ℕ) (s : Session) → s .chain ≡ Shut → closed (state m w s) d ≡ state m w (holding s Shut Gone)
+unfolding closed closedWork
+shut-state m w d s e = ap (λ (c : Chain). state m (closedWork w c (length d)) (holding s Shut Gone)) e
+
+pub gathered-open : (m w d : List ℕ) (s : Session) (ins p1 p2 n : ℕ) → s .chain ≡ Open ins p1 p2 n → gathered (state m w s) d ≡ take n w ++ d
+unfolding gathered
+gathered-open m w d s ins p1 p2 n e = ap (λ (c : Chain). take (chainLength c) w ++ d) e
+
+pub gathered-shut : (m w d : List ℕ) (s : Session) → s .chain ≡ Shut → gathered (state m w s) d ≡ d
+unfolding gathered
+gathered-shut m w d s e = ap (λ (c : Chain). take (chainLength c) w ++ d) e

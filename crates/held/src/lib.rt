@@ -43,6 +43,15 @@ pub fn say(s: Session, resp: &mut [u8], sw: u16) -> Reply
     }
 }
 
+// What is held is dropped, and a status word goes out.
+pub fn drop_say(s: Session, work: &mut [u8], resp: &mut [u8], sw: u16) -> Reply
+    requires { ⌜ (258 ≤ length (now resp)) × (heldLength s ≤ 13321) × (length (now work) ≡ 13321) ⌝ }
+    ensures { λ r. ⌜ ((m : List ℕ) → outcome r m (now (work .exit)) (now (resp .exit)) ≡ (delivered (now (resp .entry)) (says (dropped (state m (now (work .entry)) s)) sw)) .outcome) ⌝ }
+{
+    let t = drop_held(s, work);
+    say(t, resp, sw)
+}
+
 // 61 and the number of bytes left, 00 if 256 or more.
 fn left_word(n: usize) -> u16
     ensures { λ r. ⌜ r ≡ leftWord n ⌝ }

@@ -9,8 +9,8 @@ use borrow.Author.Needs.{needs}
 use Rattle.answers.proofs.get_response.Statement.{statement}
 use Rattle.answers.proofs.get_response.Tie as tie
 
-nothing-out-requires : tie.Need-nothing-out-requires
-nothing-out-requires c κs = search needs
+drop-say-requires : tie.Need-drop-say-requires
+drop-say-requires c κs = search needs
 
 same-length : tie.Need-same-length
 same-length c = search needs
@@ -21,11 +21,11 @@ same-length-2 c = search needs
 returns : tie.Need-returns
 returns c = λ m.
     let a = c .before .before .before .before .before .before .before .before .before .before .before .before .args in
-    c .before .before .before .before .nothing-out .ensures m
+    c .before .before .before .before .drop-say .ensures m
     ∙ delivers (a .resp .now) (response-p1 (state m (a .work .now) (a .s)) (a .h) (a .field .now) (c .before .before .before .before .before .before .before .if1 .taken))
 
-nothing-out-requires-2 : tie.Need-nothing-out-requires-2
-nothing-out-requires-2 c κs = search needs
+drop-say-requires-2 : tie.Need-drop-say-requires-2
+drop-say-requires-2 c κs = search needs
 
 same-length-3 : tie.Need-same-length-3
 same-length-3 c = search needs
@@ -36,11 +36,11 @@ same-length-4 c = search needs
 returns-2 : tie.Need-returns-2
 returns-2 c = λ m.
     let a = c .before .before .before .before .before .before .before .before .before .before .before .before .before .before .args in
-    c .before .before .before .before .nothing-out2 .ensures m
+    c .before .before .before .before .drop-say2 .ensures m
     ∙ delivers (a .resp .now) (response-p2 (state m (a .work .now) (a .s)) (a .h) (a .field .now) (c .before .before .before .before .before .before .before .if2 .taken))
 
-nothing-out-requires-3 : tie.Need-nothing-out-requires-3
-nothing-out-requires-3 c κs = search needs
+drop-say-requires-3 : tie.Need-drop-say-requires-3
+drop-say-requires-3 c κs = search needs
 
 same-length-5 : tie.Need-same-length-5
 same-length-5 c = search needs
@@ -51,7 +51,7 @@ same-length-6 c = search needs
 returns-3 : tie.Need-returns-3
 returns-3 c = λ m.
     let a = c .before .before .before .before .before .before .before .before .before .before .before .before .before .before .before .args in
-    c .before .before .before .before .nothing-out3 .ensures m
+    c .before .before .before .before .drop-say3 .ensures m
     ∙ delivers (a .resp .now) (response-data (state m (a .work .now) (a .s)) (a .h) (a .field .now) (c .before .before .before .before .before .before .before .before .before .before .if1 .left) (c .before .before .before .before .before .before .before .before .if2 .left) (c .before .before .before .before .before .before .before .if3 .taken))
 
 enum-known-rest : tie.Need-enum-known-rest
@@ -60,8 +60,8 @@ enum-known-rest c = search needs
 enum-told : tie.Need-enum-told
 enum-told c = search needs
 
-nothing-out-requires-4 : tie.Need-nothing-out-requires-4
-nothing-out-requires-4 c κs = search needs
+drop-say-requires-4 : tie.Need-drop-say-requires-4
+drop-say-requires-4 c κs = search needs
 
 same-length-7 : tie.Need-same-length-7
 same-length-7 c = search needs
@@ -72,7 +72,7 @@ same-length-8 c = search needs
 returns-4 : tie.Need-returns-4
 returns-4 c = λ m.
     let a = c .before .before .before .before .before .before .before .before .before .before .before .before .before .before .before .before .before .args in
-    c .before .before .before .before .nothing-out4 .ensures m
+    c .before .before .before .before .drop-say4 .ensures m
     ∙ delivers (a .resp .now) (response-none (state m (a .work .now) (a .s)) (a .h) (a .field .now) (c .before .before .before .before .before .before .before .before .before .before .before .before .if1 .left) (c .before .before .before .before .before .before .before .before .before .before .if2 .left) (c .before .before .before .before .before .before .before .before .before .if3 .left) (c .before .before .before .before .before .before .before .enum-told .given .1))
 
 fetch-requires : tie.Need-fetch-requires
@@ -97,21 +97,21 @@ pub get-response-spec : {M : Type 1} → statement M
 get-response-spec =
     tie.close
     (tie.spec
-    nothing-out-requires
+    drop-say-requires
     same-length
     same-length-2
     returns
-    nothing-out-requires-2
+    drop-say-requires-2
     same-length-3
     same-length-4
     returns-2
-    nothing-out-requires-3
+    drop-say-requires-3
     same-length-5
     same-length-6
     returns-3
     enum-known-rest
     enum-told
-    nothing-out-requires-4
+    drop-say-requires-4
     same-length-7
     same-length-8
     returns-4

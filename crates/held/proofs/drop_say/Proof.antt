@@ -5,8 +5,8 @@ use Rattle.rules.specs.Session.{State}
 use Rattle.rules.specs.Command.{says}
 use Rattle.rules.specs.Calls.{delivered}
 use borrow.Author.Needs.{needs}
-use Rattle.answers.proofs.nothing_out.Statement.{statement}
-use Rattle.answers.proofs.nothing_out.Tie as tie
+use Rattle.held.proofs.drop_say.Statement.{statement}
+use Rattle.held.proofs.drop_say.Tie as tie
 
 drop-held-requires : tie.Need-drop-held-requires
 drop-held-requires c κs = search needs
@@ -26,6 +26,6 @@ returns c = λ m.
     c .before .before .say .ensures m (c .before .before .before .before .before .before .drop-held .last .1 .0)
     ∙ ap (λ (x : State). (delivered (i .args .resp .now) (says x (i .args .sw))) .outcome) (c .before .before .before .before .before .before .drop-held .ensures m)
 
-pub nothing-out-spec : {M : Type 1} → statement M
-nothing-out-spec =
+pub drop-say-spec : {M : Type 1} → statement M
+drop-say-spec =
     tie.close (tie.spec drop-held-requires say-requires same-length same-length-2 returns)
