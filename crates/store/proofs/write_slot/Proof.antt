@@ -1,12 +1,9 @@
 -- `store::write_slot` meets its contract: the length, the value and the zeros stand one behind the other, and fill the slot.
 -- Assumes nothing.
-use mathlib.Core.Path.{_≡_, _∙_}
-use Prim.Native.Nat.{_-_}
+use mathlib.Core.Path.{_∙_}
 use native.Mathlib.Omega.{arith}
 use borrow.Author.Needs.{needs}
 use denote.Ref.{now}
-use lib.ListN.{length}
-use Rattle.rules.specs.Store.{capacity}
 use Rattle.store.proofs.Laws.{slot-written}
 use Rattle.store.proofs.write_slot.Statement.{statement}
 use Rattle.store.proofs.write_slot.Tie as tie
@@ -40,10 +37,8 @@ returns c = λ i e.
     let put = c .before .before .before .before .before .before in
     let word = put .before .before .before .before in
     let a = word .before .before .before .before .args in
-    let n = length (now (a .value)) in
-    let rest : length (now (a .part)) - 2 - n ≡ capacity i - n = omega arith in
     c .before .before .zero .ensures
-    ∙ rw (put .put .ensures, word .put-word .ensures, rest) (slot-written i (now (a .part)) (now (a .value)) (omega arith) e)
+    ∙ rw (put .put .ensures, word .put-word .ensures) (slot-written i (now (a .part)) (now (a .value)) (omega arith) e)
 
 pub write-slot-spec : {M : Type 1} → statement M
 write-slot-spec =
