@@ -69,10 +69,12 @@ three s a b d e =
     (join-start s (a ++ b) d (omega arith) ∙ whole s (a ++ b ++ d) (omega arith) ∙ append-assoc a b d)
 
 pub slot-written : (i : ℕ) (s v : List ℕ) → length v ≤ capacity i → length s ≡ 2 + capacity i
-    → splice (splice (splice s 0 (word (length v))) 2 v) (2 + length v) (zeros (capacity i - length v)) ≡ slotBytes i v
+    → splice (splice (splice s 0 (word (length v))) 2 v) (2 + length v) (zeros (length s - 2 - length v)) ≡ slotBytes i v
 unfolding slotBytes word
 slot-written i s v h e =
-    three s (word (length v)) v (zeros (capacity i - length v)) (omega (arith, length-zeros (capacity i - length v)))
+    let z : List ℕ = zeros (capacity i - length v) in
+    let rest : length s - 2 - length v ≡ capacity i - length v = omega arith in
+    rw rest (three s (word (length v)) v z (omega (arith, length-zeros (capacity i - length v))))
 
 -- ---- keys
 

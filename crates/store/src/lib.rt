@@ -126,7 +126,7 @@ pub fn object(store: &[u8], slot: usize) -> &[u8]
     octets::part(store, at + 2, octets::be16(store, at))
 }
 
-// A whole slot of that capacity: the length, the value, and zeros to its end.
+// A slot, whichever has that capacity: the length, the value, and zeros to its end.
 fn write_slot(part: &mut [u8], value: &[u8])
     requires { ⌜ (2 + length (now value) ≤ length (now part)) × (length (now value) < 65536) ⌝ }
     ensures { λ _. ⌜ ((i : ℕ) → length (now (part .entry)) ≡ 2 + capacity i → now (part .exit) ≡ slotBytes i (now (value .entry))) ⌝ }

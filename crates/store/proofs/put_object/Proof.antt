@@ -4,7 +4,6 @@ use mathlib.Core.Path.{_≡_, sym, ap, _∙_}
 use mathlib.Core.List.{List}
 use Prim.Native.Nat.{ℕ, _+_, _-_}
 use native.Mathlib.Omega.{arith}
-use borrow.Author.Needs.{needs}
 use denote.Ref.{now}
 use lib.ListN.{length}
 use Rattle.rules.specs.Bytes.{part, splice}
@@ -16,22 +15,22 @@ use Rattle.store.proofs.put_object.Statement.{statement}
 use Rattle.store.proofs.put_object.Tie as tie
 
 offset-requires : tie.Need-offset-requires
-offset-requires c κs = search needs
+offset-requires c κs = omega arith
 
 add-to : tie.Need-add-to
 add-to c = omega (arith, slot-fits (c .before .before .before .args .slot) (omega arith))
 
 capacity-requires : tie.Need-capacity-requires
-capacity-requires c κs = search needs
+capacity-requires c κs = omega arith
 
 add-to-2 : tie.Need-add-to-2
 add-to-2 c = omega (arith, slot-fits (c .before .before .before .before .args .slot) (omega arith))
 
 sub-write-slot : tie.Need-sub-write-slot
-sub-write-slot c = search needs
+sub-write-slot c = omega arith
 
 part-write-slot-start : tie.Need-part-write-slot-start
-part-write-slot-start c = search needs
+part-write-slot-start c = omega arith
 
 part-write-slot-end : tie.Need-part-write-slot-end
 part-write-slot-end c = omega (arith, slot-fits (c .before .before .before .before .args .slot) (omega arith))
@@ -54,7 +53,7 @@ write-slot-requires c κs =
     omega (arith, slot-length (c .before), capacity-small (a .slot) (omega arith))
 
 same-length : tie.Need-same-length
-same-length c = search needs
+same-length c = omega arith
 
 returns : tie.Need-returns
 unfolding putObject part
