@@ -1,6 +1,5 @@
 -- Laws: lengths and objects, for those who read and write them.
 --
---   either              what holds of both branches of an `iff`
 --   one-to-three        a length takes one, two or three bytes
 --   in-room             a length fits the form that is written for it
 --   length-ber          as many bytes are written as it takes
@@ -36,18 +35,13 @@ use Rattle.rules.specs.Bytes.{iff, part, splice}
 use Rattle.rules.specs.Ber.{lengthBytes, berLength, announced, lengthValue, lengthIn, lengthAt}
 use Rattle.rules.specs.Ber.{valueFrom, objectAt, ending, lastAt, tlv}
 use Rattle.rules.specs.Claims.Lengths.{room, Bytes}
-use Rattle.rules.proofs.Tests.{on, off, or-left, or-right, or-none, by-order, by-equal}
+use Rattle.rules.proofs.Tests.{on, off, either, or-left, or-right, or-none, by-order, by-equal}
 use Rattle.rules.proofs.Lists.{part-head, length-splice}
 use Rattle.rules.proofs.Lengths.{counted, form-length, form-read, Read, read-is}
 use Rattle.octets.proofs.Laws.{splice-next}
 use Rattle.octets.proofs.Numbers.{number16}
 
 -- ---- lengths
-
-pub either : {A : Type 0} (P : A → Type 0) (b : Bool) {x y : A} → P x → P y → P (iff b x y)
-unfolding iff
-either P true p q = p
-either P false p q = q
 
 pub one-to-three : (n : ℕ) → (1 ≤ lengthBytes n) × (lengthBytes n ≤ 3)
 unfolding lengthBytes

@@ -5,6 +5,8 @@
 --   length-of-part         the length of a stretch that was read
 --   all-sent part-sent     an answer that fits Le, and one that does not
 --   part-fetched           more of a held response
+--   piece-bad piece-more piece-last    one piece of a chaining command
+--   based-held             what is held when a chaining command starts
 --   gathered-part          a last piece put behind the others: all of the chain, in a row
 --   zero-over              and then zeroed with them
 --   closed-state           the state after the last piece of an open chain
@@ -13,25 +15,27 @@
 --
 -- Assumes nothing.
 use mathlib.Core.Path.{_≡_, refl, ap, ap₂, sym, _∙_}
+use mathlib.Core.Bool.{not}
 use mathlib.Core.List.{List, [], _++_, append-assoc}
 use Prim.Native.Nat.{ℕ, _+_, _-_, _≤_, _<_}
 use native.Mathlib.Omega.{arith}
 use lib.ListN.{length, take, drop, length-append, length-take}
 use lib.Seq.{length-take-le, take-at, drop-at}
-use borrow.Author.Tests.{le-leb, lt-leb}
+use borrow.Author.Tests.{le-leb, lt-leb, eq-eqb, ne-eqb}
 use Rattle.rules.specs.declared.Answer.{Answer}
 use Rattle.rules.specs.declared.Answer.the-variants.{Response}
 use Rattle.rules.specs.declared.Chain.{Chain}
 use Rattle.rules.specs.declared.Chain.the-variants.{Shut, Open}
 use Rattle.rules.specs.declared.Rest.the-variants.{Gone, Left}
 use Rattle.rules.specs.declared.Session.{Session}
+use Rattle.rules.specs.declared.Header.{Header}
 use Rattle.rules.specs.declared.Reply.{Reply}
-use Rattle.rules.specs.Bytes.{part, splice, zeros, zeroed, word}
-use Rattle.rules.specs.Session.{state, holding, chainLength}
-use Rattle.rules.specs.Command.{Made}
-use Rattle.rules.specs.Held.{leftWord, send, fetch, gathered, closedWork, closed}
+use Rattle.rules.specs.Bytes.{iff, part, splice, zeros, zeroed, word}
+use Rattle.rules.specs.Session.{State, state, holding, chainLength, heldLength}
+use Rattle.rules.specs.Command.{Made, says}
+use Rattle.rules.specs.Held.{dropped, leftWord, send, fetch, goesOn, based, gathered, heldPiece, closedWork, closed, piece}
 use Rattle.rules.specs.Calls.{outcome, reply, delivered, toldBytes, toldAnswer}
-use Rattle.rules.proofs.Tests.{on, off}
+use Rattle.rules.proofs.Tests.{on, off, either}
 use Rattle.rules.proofs.Lists.{length-part}
 use Rattle.octets.proofs.Laws.{length-zeros}
 
@@ -112,3 +116,26 @@ gathered-open m w d s ins p1 p2 n e = ap (λ (c : Chain). take (chainLength c) w
 pub gathered-shut : (m w d : List ℕ) (s : Session) → s .chain ≡ Shut → gathered (state m w s) d ≡ d
 unfolding gathered
 gathered-shut m w d s e = ap (λ (c : Chain). take (chainLength c) w ++ d) e
+
+-- ---- a piece
+
+module _ (st : State) (h : Header) (d : List ℕ) (sw : ℕ) (whole : State → List ℕ → Made) where
+  pub piece-bad : (sw ≡ 0x9000 → ⊥) → piece st h d sw whole ≡ says (dropped st) sw
+  unfolding piece
+  piece-bad e = on _ _ _ (ap not (ne-eqb sw 0x9000 e))
+
+  pub piece-more : sw ≡ 0x9000 → h .cla ≡ 0x10 → piece st h d sw whole ≡ says (heldPiece st h d) 0x9000
+  unfolding piece
+  piece-more e c = off _ _ _ (ap not (eq-eqb sw 0x9000 e)) ∙ on _ _ _ (eq-eqb (h .cla) 0x10 c)
+
+  pub piece-last : sw ≡ 0x9000 → (h .cla ≡ 0x10 → ⊥) → piece st h d sw whole ≡ whole (closed st d) (gathered st d)
+  unfolding piece
+  piece-last e c = off _ _ _ (ap not (eq-eqb sw 0x9000 e)) ∙ off _ _ _ (ne-eqb (h .cla) 0x10 c)
+
+pub based-held : (m w w′ : List ℕ) (s t : Session) (h : Header) → state m w′ t ≡ based (state m w s) h → heldLength s ≤ 13321 → heldLength t ≤ 13321
+unfolding based dropped
+based-held m w w′ s t h e l =
+    let st : State = state m w s in
+    let q : heldLength ((iff (goesOn (s .chain) h) st (dropped st)) .session) ≤ 13321 =
+    either (λ (x : State). heldLength (x .session) ≤ 13321) (goesOn (s .chain) h) {x = st} {y = dropped st} l (omega arith) in
+    omega (arith, ap (λ (x : State). heldLength (x .session)) e, q)

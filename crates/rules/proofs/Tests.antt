@@ -1,6 +1,7 @@
 -- Tests: laws of `iff` and of tests, and how a computed test of a whole table gives its rule at each entry.
 --
 --   on off                 which branch of an `iff` is taken
+--   either                 what holds of both branches
 --   passes fails negated   a test b that a call answered by r, after the code's test of `!r`
 --   and-left and-right and-both    a conjunction of tests that passes
 --   and-off-left and-off-right     one that does not
@@ -35,6 +36,11 @@ pub off : {A : Type 0} (b : Bool) (x y : A) → b ≡ false → iff b x y ≡ y
 unfolding iff
 off true x y e = absurd (true≢false e)
 off false x y e = refl
+
+pub either : {A : Type 0} (P : A → Type 0) (b : Bool) {x y : A} → P x → P y → P (iff b x y)
+unfolding iff
+either P true p q = p
+either P false p q = q
 
 -- ---- what a call answered: r ≡ b is its promise, and the code has tested `!r`
 
