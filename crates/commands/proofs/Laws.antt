@@ -4,21 +4,64 @@
 --   ruled-select .. ruled-put    the rule of each INS
 --
 -- Assumes nothing.
-use mathlib.Core.Path.{_≡_, refl}
+use mathlib.Core.Path.{_≡_, refl, ap, _∙_}
 use mathlib.Core.List.{List}
 use Prim.Native.Nat.{ℕ}
+use lib.Dec.{eqb}
+use borrow.Author.Tests.{ne-eqb}
 use Rattle.rules.specs.declared.Answer.the-variants.{Response}
 use Rattle.rules.specs.declared.Chain.the-variants.{Shut}
 use Rattle.rules.specs.declared.Rest.the-variants.{Gone}
+use Rattle.rules.specs.declared.Challenge.{Challenge}
+use Rattle.rules.specs.declared.Header.{Header}
 use Rattle.rules.specs.declared.Session.{Session}
 use Rattle.rules.specs.Bytes.{splice, zeroed, word}
-use Rattle.rules.specs.Session.{state, withPin, holding, heldLength}
+use Rattle.rules.specs.Session.{State, state, withPin, holding, heldLength}
 use Rattle.rules.specs.Held.{dropped}
-use Rattle.rules.specs.Pin.{Said, withGiven, after, refsIn, refsOnto, judgedOn, refs, putRefs, onRefs}
-use Rattle.rules.specs.Calls.{outcome, reply, delivered, toldBytes, toldAnswer}
+use Rattle.rules.specs.Pin.{Said, withGiven, after, verify, change, reset, refsIn, refsOnto, judgedOn, refs, putRefs, onRefs}
+use Rattle.rules.specs.Objects.{select, getData, getResponse, putData}
+use Rattle.rules.specs.Keys.{authenticate}
+use Rattle.rules.specs.Calls.{outcome, reply, delivered, toldBytes, toldAnswer, ruled}
+use Rattle.rules.proofs.Tests.{on, off}
 
 pub ref-seen : (s w resp : List ℕ) (ss : Session) (x : Said)
     → outcome (reply (Response 2) (withPin (holding ss Shut Gone) (judgedOn s (ss .pin) x .judged .given))) (judgedOn s (ss .pin) x .store) (zeroed w (heldLength ss)) (splice resp 0 (word (judgedOn s (ss .pin) x .judged .sw)))
     ≡ (delivered resp (onRefs (dropped (state s w ss)) x)) .outcome
 unfolding judgedOn delivered toldBytes toldAnswer word onRefs putRefs after withGiven refs refsIn refsOnto dropped
 ref-seen s w resp ss x = refl
+
+-- ---- which rule answers
+
+module _ (st : State) (ch : Challenge) (h : Header) (d : List ℕ) where
+  pub ruled-select : h .ins ≡ 0xA4 → ruled st ch h d ≡ select (dropped st) h d
+  unfolding ruled
+  ruled-select e = on _ _ _ (ap (λ (x : ℕ). eqb x 0xA4) e)
+
+  pub ruled-data : h .ins ≡ 0xCB → ruled st ch h d ≡ getData (dropped st) h d
+  unfolding ruled
+  ruled-data e = off _ _ _ (ap (λ (x : ℕ). eqb x 0xA4) e) ∙ on _ _ _ (ap (λ (x : ℕ). eqb x 0xCB) e)
+
+  pub ruled-response : h .ins ≡ 0xC0 → ruled st ch h d ≡ getResponse st h d
+  unfolding ruled
+  ruled-response e = off _ _ _ (ap (λ (x : ℕ). eqb x 0xA4) e) ∙ off _ _ _ (ap (λ (x : ℕ). eqb x 0xCB) e) ∙ on _ _ _ (ap (λ (x : ℕ). eqb x 0xC0) e)
+
+  pub ruled-verify : h .ins ≡ 0x20 → ruled st ch h d ≡ onRefs (dropped st) (verify (refs st) h d)
+  unfolding ruled
+  ruled-verify e = off _ _ _ (ap (λ (x : ℕ). eqb x 0xA4) e) ∙ off _ _ _ (ap (λ (x : ℕ). eqb x 0xCB) e) ∙ off _ _ _ (ap (λ (x : ℕ). eqb x 0xC0) e) ∙ on _ _ _ (ap (λ (x : ℕ). eqb x 0x20) e)
+
+  pub ruled-change : h .ins ≡ 0x24 → ruled st ch h d ≡ onRefs (dropped st) (change (refs st) h d)
+  unfolding ruled
+  ruled-change e = off _ _ _ (ap (λ (x : ℕ). eqb x 0xA4) e) ∙ off _ _ _ (ap (λ (x : ℕ). eqb x 0xCB) e) ∙ off _ _ _ (ap (λ (x : ℕ). eqb x 0xC0) e) ∙ off _ _ _ (ap (λ (x : ℕ). eqb x 0x20) e) ∙ on _ _ _ (ap (λ (x : ℕ). eqb x 0x24) e)
+
+  pub ruled-reset : h .ins ≡ 0x2C → ruled st ch h d ≡ onRefs (dropped st) (reset (refs st) h d)
+  unfolding ruled
+  ruled-reset e = off _ _ _ (ap (λ (x : ℕ). eqb x 0xA4) e) ∙ off _ _ _ (ap (λ (x : ℕ). eqb x 0xCB) e) ∙ off _ _ _ (ap (λ (x : ℕ). eqb x 0xC0) e) ∙ off _ _ _ (ap (λ (x : ℕ). eqb x 0x20) e) ∙ off _ _ _ (ap (λ (x : ℕ). eqb x 0x24) e) ∙ on _ _ _ (ap (λ (x : ℕ). eqb x 0x2C) e)
+
+  pub ruled-auth : h .ins ≡ 0x87 → ruled st ch h d ≡ authenticate ch st h d
+  unfolding ruled
+  ruled-auth e = off _ _ _ (ap (λ (x : ℕ). eqb x 0xA4) e) ∙ off _ _ _ (ap (λ (x : ℕ). eqb x 0xCB) e) ∙ off _ _ _ (ap (λ (x : ℕ). eqb x 0xC0) e) ∙ off _ _ _ (ap (λ (x : ℕ). eqb x 0x20) e) ∙ off _ _ _ (ap (λ (x : ℕ). eqb x 0x24) e) ∙ off _ _ _ (ap (λ (x : ℕ). eqb x 0x2C) e) ∙ on _ _ _ (ap (λ (x : ℕ). eqb x 0x87) e)
+
+  pub ruled-put : (h .ins ≡ 0xA4 → ⊥) → (h .ins ≡ 0xCB → ⊥) → (h .ins ≡ 0xC0 → ⊥) → (h .ins ≡ 0x20 → ⊥) → (h .ins ≡ 0x24 → ⊥) → (h .ins ≡ 0x2C → ⊥) → (h .ins ≡ 0x87 → ⊥) → ruled st ch h d ≡ putData st h d
+  unfolding ruled
+  ruled-put e0 e1 e2 e3 e4 e5 e6 =
+      off _ _ _ (ne-eqb (h .ins) 0xA4 e0) ∙ off _ _ _ (ne-eqb (h .ins) 0xCB e1) ∙ off _ _ _ (ne-eqb (h .ins) 0xC0 e2) ∙ off _ _ _ (ne-eqb (h .ins) 0x20 e3) ∙ off _ _ _ (ne-eqb (h .ins) 0x24 e4) ∙ off _ _ _ (ne-eqb (h .ins) 0x2C e5) ∙ off _ _ _ (ne-eqb (h .ins) 0x87 e6)

@@ -101,3 +101,42 @@ fn get_data(
     let t = held::drop_held(s, work);
     objects::get_data(t, store, work, resp, h, field)
 }
+
+// ---- which rule answers
+
+pub fn rule(
+    ch: Challenge,
+    s: Session,
+    store: &mut [u8],
+    work: &mut [u8],
+    resp: &mut [u8],
+    h: Header,
+    field: &[u8],
+) -> Reply
+    requires { ⌜ (h .le ≤ 256) × (258 ≤ length (now resp)) × (wellFormed (now store) ≡ true) × (restOk (s .rest) ≡ true) × (heldLength s ≤ 13321) × (length (now field) ≤ 255) × (length (now work) ≡ 13321) ⌝ }
+    ensures { λ r. ⌜ outcome r (now (store .exit)) (now (work .exit)) (now (resp .exit)) ≡ (delivered (now (resp .entry)) (ruled (state (now (store .entry)) (now (work .entry)) s) ch h (now (field .entry)))) .outcome ⌝ }
+{
+    let ins = h.ins;
+    if ins == 0xA4 {
+        return select(s, work, resp, h, field);
+    }
+    if ins == 0xCB {
+        return get_data(s, store, work, resp, h, field);
+    }
+    if ins == 0xC0 {
+        return answers::get_response(s, work, resp, h, field);
+    }
+    if ins == 0x20 {
+        return verify(s, store, work, resp, h, field);
+    }
+    if ins == 0x24 {
+        return change(s, store, work, resp, h, field);
+    }
+    if ins == 0x2C {
+        return reset(s, store, work, resp, h, field);
+    }
+    if ins == 0x87 {
+        return keys::authenticate(ch, s, store, work, resp, h, field);
+    }
+    putting::put_data(s, store, work, resp, h, field)
+}
