@@ -38,7 +38,9 @@ some c =
 -- the tests before the comparison are passed
 compared : (c : tie.Else4) →
     let i = c .before .before .before .before .before .before .before .before .before .before .before .before .before in
-    changeOf (refs i) thePin pinForm true false (field i) ≡ iff (matches (the (refs i) thePin) (take 8 (field i))) (changed thePin (drop 8 (field i)) true) (missed (refs i) thePin false)
+    let r = refs i in
+    let d = field i in
+    changeOf r thePin pinForm true false d ≡ iff (matches (the r thePin) (take 8 d)) (changed thePin (drop 8 d) true) (missed r thePin false)
 compared c =
     let f = c .before .before .before in
     let i = f .before .before .before .before .before .before .before .before .before .before in
@@ -62,7 +64,8 @@ returns c =
     let n = c .before in
     let i = n .before .before .before .before .before .before in
     same-said _ _ (c .answer .ensures (bytes i) (i .pre))
-    (halves-none (change-is (refs i) thePin pinForm true false (field i)) (none-left (refs i .pin) (n .before .before .pin-left .ensures (i .args .given)) (n .if1 .taken)))
+    (halves-none (change-is (refs i) thePin pinForm true false (field i))
+    (none-left (refs i .pin) (n .before .before .pin-left .ensures (i .args .given)) (n .if1 .taken)))
 
 answer-requires-2 : tie.Need-answer-requires-2
 answer-requires-2 c κs = search needs
@@ -72,7 +75,8 @@ same-length-2 c = search needs
 
 returns-2 : tie.Need-returns-2
 returns-2 c = let i = c .before .before .before .before .before .before .before .before in
-    same-said _ _ (c .answer2 .ensures (bytes i) (i .pre)) (halves-length (change-is (refs i) thePin pinForm true false (field i)) (some (c .before .before)) (c .before .if2 .taken))
+    same-said _ _ (c .answer2 .ensures (bytes i) (i .pre))
+    (halves-length (change-is (refs i) thePin pinForm true false (field i)) (some (c .before .before)) (c .before .if2 .taken))
 
 part-requires : tie.Need-part-requires
 part-requires c κs = search needs
@@ -122,7 +126,8 @@ charge-pin-requires c κs =
 
 pin-is-requires : tie.Need-pin-is-requires
 pin-is-requires c κs = let f = c .before .before .before .before .before .before .before .before in
-    (search needs, half-length (field (f .before .before .before .before .before .before .before .before .before .before)) (f .before .before .before .if2 .left) 0 (omega arith) (f .before .before .part .ensures))
+    let i = f .before .before .before .before .before .before .before .before .before .before in
+    (search needs, half-length (field i) (f .before .before .before .if2 .left) 0 (omega arith) (f .before .before .part .ensures))
 
 tries-word-requires : tie.Need-tries-word-requires
 tries-word-requires c κs = search needs
@@ -145,7 +150,8 @@ returns-5 c =
 
 new-pin-requires : tie.Need-new-pin-requires
 new-pin-requires c κs = let e = c .before .before .before .before .before .before .before .before in
-    (search needs, half-length (field (e .before .before .before .before .before .before .before .before .before .before .before .before .before)) (e .before .before .before .before .before .before .if2 .left) 8 (omega arith) (e .before .before .part2 .ensures))
+    let i = e .before .before .before .before .before .before .before .before .before .before .before .before .before in
+    (search needs, half-length (field i) (e .before .before .before .before .before .before .if2 .left) 8 (omega arith) (e .before .before .part2 .ensures))
 
 restore-pin-requires : tie.Need-restore-pin-requires
 restore-pin-requires c κs = search needs
@@ -164,8 +170,8 @@ returns-6 c =
     let l = e .before .before .before .before .before .before .if2 .left in
     let o = next-step (no-step (bytes i) b (omega (arith, i .pre))) (charge thePin) tt (k .charge-pin .ensures .0 b) in
     let u = charge-kept thePin o (h .before .pin-is .ensures b) (first-half (field i) l (e .before .before .before .before .before .part .ensures)) in
-    let v = next-step o (newValue thePin _) (half-length (field i) l 8 (omega arith) (e .before .before .part2 .ensures))
-    (c .before .before .before .before .before .before .new-pin .ensures b) in
+    let z = half-length (field i) l 8 (omega arith) (e .before .before .part2 .ensures) in
+    let v = next-step o (newValue thePin _) z (c .before .before .before .before .before .before .new-pin .ensures b) in
     changed-by thePin true (last-half (field i) l (e .before .before .part2 .ensures)) (next-step v (restore thePin) tt (c .before .before .restore-pin .ensures b))
     (compared e ∙ on _ _ _ (passes u (h .if5 .left)))
 

@@ -38,7 +38,10 @@ some c =
 -- the tests before the comparison are passed
 compared : (c : tie.Else4) →
     let i = c .before .before .before .before .before .before .before .before .before .before .before .before .before in
-    changeOf (refs i) thePuk pukForm (i .args .given) (i .args .given) (field i) ≡ iff (matches (the (refs i) thePuk) (take 8 (field i))) (changed thePuk (drop 8 (field i)) (i .args .given)) (missed (refs i) thePuk (i .args .given))
+    let r = refs i in
+    let d = field i in
+    let b = i .args .given in
+    changeOf r thePuk pukForm b b d ≡ iff (matches (the r thePuk) (take 8 d)) (changed thePuk (drop 8 d) b) (missed r thePuk b)
 compared c =
     let f = c .before .before .before in
     let i = f .before .before .before .before .before .before .before .before .before .before in
@@ -62,7 +65,8 @@ returns c =
     let n = c .before in
     let i = n .before .before .before .before .before .before in
     same-said _ _ (c .answer .ensures (bytes i) (i .pre))
-    (halves-none (change-is (refs i) thePuk pukForm (i .args .given) (i .args .given) (field i)) (none-left (refs i .puk) (n .before .before .puk-left .ensures (i .args .given)) (n .if1 .taken)))
+    (halves-none (change-is (refs i) thePuk pukForm (i .args .given) (i .args .given) (field i))
+    (none-left (refs i .puk) (n .before .before .puk-left .ensures (i .args .given)) (n .if1 .taken)))
 
 answer-requires-2 : tie.Need-answer-requires-2
 answer-requires-2 c κs = search needs
@@ -72,7 +76,8 @@ same-length-2 c = search needs
 
 returns-2 : tie.Need-returns-2
 returns-2 c = let i = c .before .before .before .before .before .before .before .before in
-    same-said _ _ (c .answer2 .ensures (bytes i) (i .pre)) (halves-length (change-is (refs i) thePuk pukForm (i .args .given) (i .args .given) (field i)) (some (c .before .before)) (c .before .if2 .taken))
+    same-said _ _ (c .answer2 .ensures (bytes i) (i .pre))
+    (halves-length (change-is (refs i) thePuk pukForm (i .args .given) (i .args .given) (field i)) (some (c .before .before)) (c .before .if2 .taken))
 
 part-requires : tie.Need-part-requires
 part-requires c κs = search needs
@@ -122,7 +127,8 @@ charge-puk-requires c κs =
 
 puk-is-requires : tie.Need-puk-is-requires
 puk-is-requires c κs = let f = c .before .before .before .before .before .before .before .before in
-    (search needs, half-length (field (f .before .before .before .before .before .before .before .before .before .before)) (f .before .before .before .if2 .left) 0 (omega arith) (f .before .before .part .ensures))
+    let i = f .before .before .before .before .before .before .before .before .before .before in
+    (search needs, half-length (field i) (f .before .before .before .if2 .left) 0 (omega arith) (f .before .before .part .ensures))
 
 tries-word-requires : tie.Need-tries-word-requires
 tries-word-requires c κs = search needs
@@ -145,7 +151,8 @@ returns-5 c =
 
 new-puk-requires : tie.Need-new-puk-requires
 new-puk-requires c κs = let e = c .before .before .before .before .before .before .before .before in
-    (search needs, half-length (field (e .before .before .before .before .before .before .before .before .before .before .before .before .before)) (e .before .before .before .before .before .before .if2 .left) 8 (omega arith) (e .before .before .part2 .ensures))
+    let i = e .before .before .before .before .before .before .before .before .before .before .before .before .before in
+    (search needs, half-length (field i) (e .before .before .before .before .before .before .if2 .left) 8 (omega arith) (e .before .before .part2 .ensures))
 
 restore-puk-requires : tie.Need-restore-puk-requires
 restore-puk-requires c κs = search needs
@@ -164,8 +171,8 @@ returns-6 c =
     let l = e .before .before .before .before .before .before .if2 .left in
     let o = next-step (no-step (bytes i) b (omega (arith, i .pre))) (charge thePuk) tt (k .charge-puk .ensures .0 b) in
     let u = charge-kept thePuk o (h .before .puk-is .ensures b) (first-half (field i) l (e .before .before .before .before .before .part .ensures)) in
-    let v = next-step o (newValue thePuk _) (half-length (field i) l 8 (omega arith) (e .before .before .part2 .ensures))
-    (c .before .before .before .before .before .before .new-puk .ensures b) in
+    let z = half-length (field i) l 8 (omega arith) (e .before .before .part2 .ensures) in
+    let v = next-step o (newValue thePuk _) z (c .before .before .before .before .before .before .new-puk .ensures b) in
     changed-by thePuk b (last-half (field i) l (e .before .before .part2 .ensures)) (next-step v (restore thePuk) tt (c .before .before .restore-puk .ensures b))
     (compared e ∙ on _ _ _ (passes u (h .if5 .left)))
 

@@ -38,7 +38,9 @@ some c =
 -- the tests before the comparison are passed
 compared : (c : tie.Else4) →
     let i = c .before .before .before .before .before .before .before .before .before .before .before .before .before in
-    resetGiven (refs i) (field i) ≡ iff (matches (the (refs i) thePuk) (take 8 (field i))) (resetTo (refs i) (drop 8 (field i))) (missed (refs i) thePuk false)
+    let r = refs i in
+    let d = field i in
+    resetGiven r d ≡ iff (matches (the r thePuk) (take 8 d)) (resetTo r (drop 8 d)) (missed r thePuk false)
 compared c =
     let f = c .before .before .before in
     let i = f .before .before .before .before .before .before .before .before .before .before in
@@ -62,7 +64,8 @@ returns c =
     let n = c .before in
     let i = n .before .before .before .before .before .before in
     same-said _ _ (c .answer .ensures (bytes i) (i .pre))
-    (halves-none (reset-is (refs i) (field i)) (none-left (refs i .puk) (n .before .before .puk-left .ensures (i .args .given)) (n .if1 .taken)))
+    (halves-none (reset-is (refs i) (field i))
+    (none-left (refs i .puk) (n .before .before .puk-left .ensures (i .args .given)) (n .if1 .taken)))
 
 answer-requires-2 : tie.Need-answer-requires-2
 answer-requires-2 c κs = search needs
@@ -72,7 +75,8 @@ same-length-2 c = search needs
 
 returns-2 : tie.Need-returns-2
 returns-2 c = let i = c .before .before .before .before .before .before .before .before in
-    same-said _ _ (c .answer2 .ensures (bytes i) (i .pre)) (halves-length (reset-is (refs i) (field i)) (some (c .before .before)) (c .before .if2 .taken))
+    same-said _ _ (c .answer2 .ensures (bytes i) (i .pre))
+    (halves-length (reset-is (refs i) (field i)) (some (c .before .before)) (c .before .if2 .taken))
 
 part-requires : tie.Need-part-requires
 part-requires c κs = search needs
@@ -122,7 +126,8 @@ charge-puk-requires c κs =
 
 puk-is-requires : tie.Need-puk-is-requires
 puk-is-requires c κs = let f = c .before .before .before .before .before .before .before .before in
-    (search needs, half-length (field (f .before .before .before .before .before .before .before .before .before .before)) (f .before .before .before .if2 .left) 0 (omega arith) (f .before .before .part .ensures))
+    let i = f .before .before .before .before .before .before .before .before .before .before in
+    (search needs, half-length (field i) (f .before .before .before .if2 .left) 0 (omega arith) (f .before .before .part .ensures))
 
 tries-word-requires : tie.Need-tries-word-requires
 tries-word-requires c κs = search needs
@@ -145,7 +150,8 @@ returns-5 c =
 
 new-pin-requires : tie.Need-new-pin-requires
 new-pin-requires c κs = let e = c .before .before .before .before .before .before .before .before in
-    (search needs, half-length (field (e .before .before .before .before .before .before .before .before .before .before .before .before .before)) (e .before .before .before .before .before .before .if2 .left) 8 (omega arith) (e .before .before .part2 .ensures))
+    let i = e .before .before .before .before .before .before .before .before .before .before .before .before .before in
+    (search needs, half-length (field i) (e .before .before .before .before .before .before .if2 .left) 8 (omega arith) (e .before .before .part2 .ensures))
 
 restore-pin-requires : tie.Need-restore-pin-requires
 restore-pin-requires c κs = search needs
@@ -167,8 +173,8 @@ returns-6 c =
     let l = e .before .before .before .before .before .before .if2 .left in
     let o = next-step (no-step (bytes i) b (omega (arith, i .pre))) (charge thePuk) tt (k .charge-puk .ensures .0 b) in
     let u = charge-kept thePuk o (h .before .puk-is .ensures b) (first-half (field i) l (e .before .before .before .before .before .part .ensures)) in
-    let v = next-step o (newValue thePin _) (half-length (field i) l 8 (omega arith) (e .before .before .part2 .ensures))
-    (c .before .before .before .before .before .before .before .before .before .before .new-pin .ensures b) in
+    let z = half-length (field i) l 8 (omega arith) (e .before .before .part2 .ensures) in
+    let v = next-step o (newValue thePin _) z (c .before .before .before .before .before .before .before .before .before .before .new-pin .ensures b) in
     let x = next-step v (restore thePin) tt (c .before .before .before .before .before .before .restore-pin .ensures b) in
     reset-by (last-half (field i) l (e .before .before .part2 .ensures)) (next-step x (restore thePuk) tt (c .before .before .restore-puk .ensures b))
     (compared e ∙ on _ _ _ (passes u (h .if5 .left)))
