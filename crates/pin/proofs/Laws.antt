@@ -15,12 +15,13 @@
 --   no-step next-step      a row of no step, and of one step more
 --   charge-kept            a charge leaves the value as it is
 --   missed-by verified-by changed-by reset-by    the judgement of a rule, by the row of steps that were made
---   quiet answered         the same where nothing is written, and where the PIN status stays too
+--   quiet                  the same where nothing is written
+--   same-said              the judgement of a rule, by that of what it comes to
 --
 -- Assumes nothing.
 use mathlib.Core.Path.{_≡_, refl, sym, ap, ap₂, _∙_}
 use mathlib.Core.Bool.{Bool, true, false, not, _&&_, _||_}
-use mathlib.Core.List.{List, [], _∷_}
+use mathlib.Core.List.{List, []}
 use Prim.Native.Nat.{ℕ, _+_, _-_, _≤_}
 use native.Mathlib.Omega.{arith}
 use lib.Dec.{eqb}
@@ -270,13 +271,12 @@ module _ {s t : List ℕ} {b : Bool} {x : Said} where
   reset-by {v} p o e =
       judged-by (record { sw = 0x9000; given = b }) (resetTo (refsIn s b) v) o (e ∙ ap (resetTo (refsIn s b)) (sym p)) refl
 
+-- a judgement of what the rule comes to is one of the rule
+pub same-said : (s : List ℕ) (b : Bool) {x y : Said} {z : Judgement} → z ≡ judgedOn s b y → x ≡ y → z ≡ judgedOn s b x
+same-said s b q e = q ∙ ap (judgedOn s b) (sym e)
+
 -- nothing is written
 pub quiet : {s : List ℕ} {x : Said} (b : Bool) (sw : ℕ) (g : Bool) → 28 ≤ length s → x ≡ record { sw = sw; steps = []; given = g }
     → judgement (record { sw = sw; given = g }) s ≡ judgedOn s b x
 unfolding made
 quiet {s} b sw g h e = judged-by (record { sw = sw; given = g }) (record { sw = sw; steps = []; given = g }) (no-step s b h) e refl
-
-pub answered : {s : List ℕ} {b : Bool} {x : Said} {sw : ℕ} → 28 ≤ length s → x ≡ answer sw (refsIn s b)
-    → judgement (record { sw = sw; given = b }) s ≡ judgedOn s b x
-unfolding refsIn
-answered {s} {b} {x} {sw} h e = quiet b sw b h e

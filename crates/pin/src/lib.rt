@@ -11,7 +11,7 @@ ghost use lib.ListN.{length};
 ghost use Rattle.rules.specs.Reference.{pinForm, pukForm};
 ghost use Rattle.rules.specs.Command.{thePin, thePuk};
 ghost use Rattle.rules.specs.Pin.{verifyGiven, verifyAsked, verifyEnded, verify, changeOf, change, resetGiven, reset};
-ghost use Rattle.rules.specs.Pin.{refsIn, judgement, judgedOn};
+ghost use Rattle.rules.specs.Pin.{answer, refsIn, judgement, judgedOn};
 
 const DONE: u16 = 0x9000;
 
@@ -43,6 +43,13 @@ fn tries_word(left: u8) -> u16
     TRIES_LEFT + left as u16
 }
 
+// A status word, with nothing changed.
+fn answer(sw: u16, given: bool) -> Judged
+    ensures { λ r. ⌜ ((s : List ℕ) → length s ≡ 33400 → judgement r s ≡ judgedOn s given (answer sw (refsIn s given))) ⌝ }
+{
+    Judged { sw, given }
+}
+
 // ---- VERIFY
 
 // P1 FF: the PIN status ends, and no store is read.
@@ -50,10 +57,7 @@ fn verify_ended(given: bool, field: &[u8]) -> Judged
     ensures { λ r. ⌜ ((s : List ℕ) → length s ≡ 33400 → judgement r s ≡ judgedOn s given (verifyEnded (refsIn s given) (now (field .entry)))) ⌝ }
 {
     if field.len() != 0 {
-        return Judged {
-            sw: WRONG_DATA,
-            given,
-        };
+        return answer(WRONG_DATA, given);
     }
     Judged {
         sw: DONE,
@@ -66,12 +70,9 @@ fn verify_asked(store: &[u8], given: bool) -> Judged
     ensures { λ r. ⌜ judgement r (now (store .entry)) ≡ judgedOn (now (store .entry)) given (verifyAsked (refsIn (now (store .entry)) given)) ⌝ }
 {
     if given {
-        return Judged { sw: DONE, given };
+        return answer(DONE, given);
     }
-    Judged {
-        sw: tries_word(steps::pin_left(store).0),
-        given,
-    }
+    answer(tries_word(steps::pin_left(store).0), given)
 }
 
 fn verify_given(store: &mut [u8], given: bool, field: &[u8]) -> Judged
@@ -80,16 +81,10 @@ fn verify_given(store: &mut [u8], given: bool, field: &[u8]) -> Judged
 {
     let tries = steps::pin_left(store);
     if tries.0 == 0 {
-        return Judged {
-            sw: NO_TRIES,
-            given,
-        };
+        return answer(NO_TRIES, given);
     }
     if !reference::pin_form(field) {
-        return Judged {
-            sw: WRONG_DATA,
-            given,
-        };
+        return answer(WRONG_DATA, given);
     }
     let left = steps::charge_pin(store, tries);
     if !steps::pin_is(store, field) {
@@ -110,16 +105,10 @@ pub fn verify(store: &mut [u8], given: bool, h: Header, field: &[u8]) -> Judged
     ensures { λ r. ⌜ judgement r (now (store .exit)) ≡ judgedOn (now (store .entry)) given (verify (refsIn (now (store .entry)) given) h (now (field .entry))) ⌝ }
 {
     if !one_of(h.p1, 0x00, 0xFF) {
-        return Judged {
-            sw: WRONG_P1,
-            given,
-        };
+        return answer(WRONG_P1, given);
     }
     if h.p2 != 0x80 {
-        return Judged {
-            sw: NO_REFERENCE,
-            given,
-        };
+        return answer(NO_REFERENCE, given);
     }
     if h.p1 == 0xFF {
         return verify_ended(given, field);
@@ -139,30 +128,18 @@ fn change_pin(store: &mut [u8], given: bool, field: &[u8]) -> Judged
 {
     let tries = steps::pin_left(store);
     if tries.0 == 0 {
-        return Judged {
-            sw: NO_TRIES,
-            given,
-        };
+        return answer(NO_TRIES, given);
     }
     if field.len() != 16 {
-        return Judged {
-            sw: WRONG_DATA,
-            given,
-        };
+        return answer(WRONG_DATA, given);
     }
     let old = octets::part(field, 0, 8);
     if !reference::pin_form(old) {
-        return Judged {
-            sw: WRONG_DATA,
-            given,
-        };
+        return answer(WRONG_DATA, given);
     }
     let new = octets::part(field, 8, 8);
     if !reference::pin_form(new) {
-        return Judged {
-            sw: WRONG_DATA,
-            given,
-        };
+        return answer(WRONG_DATA, given);
     }
     let left = steps::charge_pin(store, tries);
     if !steps::pin_is(store, old) {
@@ -186,30 +163,18 @@ fn change_puk(store: &mut [u8], given: bool, field: &[u8]) -> Judged
 {
     let tries = steps::puk_left(store);
     if tries.0 == 0 {
-        return Judged {
-            sw: NO_TRIES,
-            given,
-        };
+        return answer(NO_TRIES, given);
     }
     if field.len() != 16 {
-        return Judged {
-            sw: WRONG_DATA,
-            given,
-        };
+        return answer(WRONG_DATA, given);
     }
     let old = octets::part(field, 0, 8);
     if !reference::puk_form(old) {
-        return Judged {
-            sw: WRONG_DATA,
-            given,
-        };
+        return answer(WRONG_DATA, given);
     }
     let new = octets::part(field, 8, 8);
     if !reference::puk_form(new) {
-        return Judged {
-            sw: WRONG_DATA,
-            given,
-        };
+        return answer(WRONG_DATA, given);
     }
     let left = steps::charge_puk(store, tries);
     if !steps::puk_is(store, old) {
@@ -228,16 +193,10 @@ pub fn change(store: &mut [u8], given: bool, h: Header, field: &[u8]) -> Judged
     ensures { λ r. ⌜ judgement r (now (store .exit)) ≡ judgedOn (now (store .entry)) given (change (refsIn (now (store .entry)) given) h (now (field .entry))) ⌝ }
 {
     if h.p1 != 0x00 {
-        return Judged {
-            sw: WRONG_P1,
-            given,
-        };
+        return answer(WRONG_P1, given);
     }
     if !one_of(h.p2, 0x80, 0x81) {
-        return Judged {
-            sw: NOT_SUPPORTED,
-            given,
-        };
+        return answer(NOT_SUPPORTED, given);
     }
     if h.p2 == 0x80 {
         return change_pin(store, given, field);
@@ -254,30 +213,18 @@ fn reset_given(store: &mut [u8], given: bool, field: &[u8]) -> Judged
 {
     let tries = steps::puk_left(store);
     if tries.0 == 0 {
-        return Judged {
-            sw: NO_TRIES,
-            given,
-        };
+        return answer(NO_TRIES, given);
     }
     if field.len() != 16 {
-        return Judged {
-            sw: WRONG_DATA,
-            given,
-        };
+        return answer(WRONG_DATA, given);
     }
     let puk = octets::part(field, 0, 8);
     if !reference::puk_form(puk) {
-        return Judged {
-            sw: WRONG_DATA,
-            given,
-        };
+        return answer(WRONG_DATA, given);
     }
     let pin = octets::part(field, 8, 8);
     if !reference::pin_form(pin) {
-        return Judged {
-            sw: WRONG_DATA,
-            given,
-        };
+        return answer(WRONG_DATA, given);
     }
     let left = steps::charge_puk(store, tries);
     if !steps::puk_is(store, puk) {
@@ -297,16 +244,10 @@ pub fn reset(store: &mut [u8], given: bool, h: Header, field: &[u8]) -> Judged
     ensures { λ r. ⌜ judgement r (now (store .exit)) ≡ judgedOn (now (store .entry)) given (reset (refsIn (now (store .entry)) given) h (now (field .entry))) ⌝ }
 {
     if h.p1 != 0x00 {
-        return Judged {
-            sw: WRONG_P1,
-            given,
-        };
+        return answer(WRONG_P1, given);
     }
     if h.p2 != 0x80 {
-        return Judged {
-            sw: NOT_SUPPORTED,
-            given,
-        };
+        return answer(NOT_SUPPORTED, given);
     }
     reset_given(store, given, field)
 }

@@ -15,7 +15,7 @@ use Rattle.rules.specs.Bytes.{part}
 use Rattle.rules.specs.Reference.{Reference, referenceAt, putReference, charged, restored, renewed}
 use Rattle.rules.specs.Store.{pinAt, pukAt}
 use Rattle.rules.specs.Command.{Which, thePin, thePuk, charge, restore, newValue}
-use Rattle.rules.specs.Pin.{Refs, the, putThe, stepped, refsIn, refsOnto}
+use Rattle.rules.specs.Pin.{the, putThe, stepped, refsIn, refsOnto}
 use Rattle.rules.proofs.Refs.{onto-pin, onto-puk}
 use Rattle.reference.proofs.Laws.{value-length, reference-lent, step-back}
 
