@@ -53,8 +53,8 @@ returns-2 c = λ m w.
     let a = c .before .before .before .before .before .before .before .before .before .before .before .args in
     c .before .before .replied .ensures m w
     ∙ delivers (a .resp .now) (admin-reply (a .ch) (state m w (a .s)) (a .le) (a .t .now) _ _ _
-    (sym (c .before .before .before .before .before .before .before .before .admin-form .ensures) ∙
-    c .before .before .before .before .before .before .from .given .1) (c .before .before .before .be64 .ensures))
+    (sym (c .before .before .before .before .before .before .before .before .admin-form .ensures)
+    ∙ c .before .before .before .before .before .before .from .given .1) (c .before .before .before .be64 .ensures))
 
 enum-told-2 : tie.Need-enum-told-2
 enum-told-2 c = search needs
