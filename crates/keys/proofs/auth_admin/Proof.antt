@@ -39,8 +39,11 @@ enum-known-from : tie.Need-enum-known-from
 enum-known-from c = search needs
 
 be64-requires : tie.Need-be64-requires
-be64-requires c κs = reply-inside (c .before .before .before .before .before .before .before .args .t .now) _
-    (sym (c .before .before .before .before .admin-form .ensures) ∙ c .before .before .from .given .1)
+be64-requires c κs = omega (
+  arith,
+  reply-inside (c .before .before .before .before .before .before .before .args .t .now) _
+      (sym (c .before .before .before .before .admin-form .ensures) ∙ c .before .before .from .given .1),
+)
 
 replied-requires : tie.Need-replied-requires
 replied-requires c κs = search needs
