@@ -36,7 +36,8 @@ unfolding splice
 written s w r e = take-at w _ r e
 
 module _ (s x y v : List ℕ) (at r tag k : ℕ) where
-  pub two-heads : length v ≤ 256 → 8 ≤ length s → k ≡ 1 + lengthBytes (length v) + length v → at ≡ 0 + 1 + lengthBytes k → r ≡ at + 1 + lengthBytes (length v)
+  pub two-heads : length v ≤ 256 → 8 ≤ length s
+      → k ≡ 1 + lengthBytes (length v) + length v → at ≡ 0 + 1 + lengthBytes k → r ≡ at + 1 + lengthBytes (length v)
       → x ≡ splice s 0 (0x7C ∷ berLength k) → y ≡ splice x at (tag ∷ berLength (length v)) → take r y ++ v ≡ tlv 0x7C (tlv tag v)
   unfolding tlv
   two-heads h hs ek ea er ex ey =

@@ -1,7 +1,6 @@
 -- Laws: what GENERAL AUTHENTICATE comes to, by the tests on the way.
 --
 --   each-low each-high each-key each-air each-pin each-long each-ok    the rules for each piece
---   each-total             what passes them has at most 266 bytes
 --   reply-unasked reply-equal reply-other    the administrator's reply
 --   admin-challenge admin-reply admin-none   the administrator's template
 --   reply-inside           the eight bytes of a reply lie in it
@@ -11,6 +10,7 @@
 --   whole-none whole-some  the template is all of the data
 --   last-open last-shut    the last piece of a chain, and a command in one piece
 --   piece-refused piece-more piece-last      one piece
+--   piece-total            what passes has at most 266 bytes in all
 --   based-held             what a chaining command starts from holds no more than was held before
 --
 -- Assumes nothing.
@@ -37,7 +37,8 @@ use Rattle.rules.specs.Ber.{objectAt, lastAt}
 use Rattle.rules.specs.Session.{State, state, inSession, holding, withAdmin, pinGiven, chainLength, heldLength}
 use Rattle.rules.specs.Command.{says}
 use Rattle.rules.specs.Held.{dropped, goesOn, based, gathered, heldPiece, closed, piece}
-use Rattle.rules.specs.Keys.{keyFits, asksPin, authEach, contents, challengeIn, replyIn, adminForm, dataTag, dataOk, dataIn, dataAfter, keyForm, replied, opened, authAdmin, authKey, authIn, authForm, authWhole, authPiece}
+use Rattle.rules.specs.Keys.{keyFits, asksPin, authEach, contents, challengeIn, replyIn, adminForm, dataTag, dataOk, dataIn, dataAfter, keyForm}
+use Rattle.rules.specs.Keys.{replied, opened, authAdmin, authKey, authIn, authForm, authWhole, authPiece}
 use Rattle.rules.proofs.Tests.{on, off, and-left, and-both, and-off-left, and-off-right}
 use Rattle.ber.proofs.Laws.{last-inside}
 use Rattle.held.proofs.Laws.{closed-state, shut-state, gathered-open, gathered-shut}
@@ -89,7 +90,7 @@ module _ (st : State) (h : Header) (n : ℕ) where
           unfolding authEach
           each-ok l = off _ _ _ in-range ∙ off _ _ _ k ∙ off _ _ _ a ∙ off _ _ _ p ∙ off _ _ _ (le-ltb 266 n l)
 
-  pub each-total : authEach st h n ≡ 0x9000 → n ≤ 266
+  each-total : authEach st h n ≡ 0x9000 → n ≤ 266
   unfolding authEach
   each-total p = ltb-false 266 n (none-taken _ _ _ _ (ltb 266 n) p)
 
@@ -238,10 +239,15 @@ module _ (ch : Challenge) (h : Header) (m w d : List ℕ) (s t : Session) (q : t
   pub last-shut : s .chain ≡ Shut → authWhole ch h (closed (state m w s) d) (gathered (state m w s) d) ≡ authWhole ch h (state m w t) d
   last-shut e = ap₂ (authWhole ch h) (shut-state m w d s e ∙ ap (state m w) (sym q)) (gathered-shut m w d s e)
 
-module _ (ch : Challenge) (st : State) (h : Header) (d : List ℕ) (sw : ℕ) (e : sw ≡ authEach st h (chainLength (st .session .chain) + length d)) where
+-- k bytes before the piece, and the word that the rules for each piece say
+module _ (ch : Challenge) (st : State) (h : Header) (d : List ℕ) (sw k : ℕ)
+    (q : k ≡ chainLength (st .session .chain)) (e : sw ≡ authEach st h (k + length d)) where
   by-word : authPiece ch st h d ≡ piece st h d sw (authWhole ch h)
   unfolding authPiece
-  by-word = ap (λ (x : ℕ). piece st h d x (authWhole ch h)) (sym e)
+  by-word = ap (λ (x : ℕ). piece st h d x (authWhole ch h)) (sym (e ∙ ap (λ (j : ℕ). authEach st h (j + length d)) q))
+
+  pub piece-total : sw ≡ 0x9000 → chainLength (st .session .chain) + length d ≤ 266
+  piece-total p = omega (arith, q, each-total st h (k + length d) (sym e ∙ p))
 
   pub piece-refused : (sw ≡ 0x9000 → ⊥) → authPiece ch st h d ≡ says (dropped st) sw
   unfolding piece

@@ -39,8 +39,11 @@ enum-known-from : tie.Need-enum-known-from
 enum-known-from c = search needs
 
 be64-requires : tie.Need-be64-requires
-be64-requires c κs = reply-inside (c .before .before .before .before .before .before .before .args .t .now) _
-    (sym (c .before .before .before .before .admin-form .ensures) ∙ c .before .before .from .given .1)
+be64-requires c κs = omega (
+  arith,
+  reply-inside (c .before .before .before .before .before .before .before .args .t .now) _
+      (sym (c .before .before .before .before .admin-form .ensures) ∙ c .before .before .from .given .1),
+)
 
 replied-requires : tie.Need-replied-requires
 replied-requires c κs = search needs
@@ -53,8 +56,8 @@ returns-2 c = λ m w.
     let a = c .before .before .before .before .before .before .before .before .before .before .before .args in
     c .before .before .replied .ensures m w
     ∙ delivers (a .resp .now) (admin-reply (a .ch) (state m w (a .s)) (a .le) (a .t .now) _ _ _
-    (sym (c .before .before .before .before .before .before .before .before .admin-form .ensures) ∙
-    c .before .before .before .before .before .before .from .given .1) (c .before .before .before .be64 .ensures))
+    (sym (c .before .before .before .before .before .before .before .before .admin-form .ensures)
+    ∙ c .before .before .before .before .before .before .from .given .1) (c .before .before .before .be64 .ensures))
 
 enum-told-2 : tie.Need-enum-told-2
 enum-told-2 c = search needs

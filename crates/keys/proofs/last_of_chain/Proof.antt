@@ -2,7 +2,7 @@
 -- Assumes nothing.
 use mathlib.Core.Path.{ap, ap₂, _∙_}
 use mathlib.Core.List.{List}
-use Prim.Native.Nat.{ℕ, _+_}
+use Prim.Native.Nat.{ℕ, _+_, _≤_}
 use native.Mathlib.Omega.{arith}
 use lib.ListN.{length}
 use Rattle.rules.specs.Bytes.{part, splice, zeros, zeroed}
@@ -42,9 +42,10 @@ returns c = λ m.
     let a = i .args in
     let n = a .n + length (a .field .now) in
     let p = c .before .before .before .before .before .before .before .before .before .before .before .before .put .ensures in
-    let z = c .before .before .zero .ensures ∙ ap (λ (l : List ℕ). splice l 0 (zeros n)) p ∙ zero-over (a .work .now) (a .field .now) (a .n) (omega (arith, i .pre)) in
+    let k : a .n + length (a .field .now) ≤ length (a .work .now) = omega (arith, i .pre) in
+    let z = c .before .before .zero .ensures ∙ ap (λ (l : List ℕ). splice l 0 (zeros n)) p ∙ zero-over (a .work .now) (a .field .now) (a .n) k in
     let d = c .before .before .before .before .before .before .before .part .ensures ∙ ap (λ (l : List ℕ). part l 0 n) p ∙ gathered-part (a .work .now) (a .field .now)
-    (a .n) (omega (arith, i .pre)) in
+    (a .n) k in
     c .before .before .before .before .before .before .whole .ensures m (c .before .before .zero .last .0)
     ∙ ap₂ (λ (w v : List ℕ). (delivered (a .resp .now) (authWhole (a .ch) (a .h) (state m w (a .s)) v)) .outcome) z d
 

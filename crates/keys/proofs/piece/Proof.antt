@@ -1,15 +1,12 @@
 -- One piece: what its rules say, then whether more follow.
 -- Assumes nothing.
-use mathlib.Core.Path.{ap, sym, _∙_}
-use Prim.Native.Nat.{ℕ, _+_}
+use mathlib.Core.Path.{ap, _∙_}
 use native.Mathlib.Omega.{arith}
-use lib.ListN.{length}
 use Rattle.rules.specs.Session.{State, state}
 use Rattle.rules.specs.Command.{says}
-use Rattle.rules.specs.Keys.{authEach}
 use Rattle.rules.specs.Calls.{delivered, outcome}
 use Rattle.held.proofs.Laws.{delivers}
-use Rattle.keys.proofs.Laws.{each-total, piece-refused, piece-more, piece-last}
+use Rattle.keys.proofs.Laws.{piece-total, piece-refused, piece-more, piece-last}
 use borrow.Author.Needs.{needs}
 use Rattle.keys.proofs.piece.Statement.{statement}
 use Rattle.keys.proofs.piece.Tie as tie
@@ -36,20 +33,19 @@ returns : tie.Need-returns
 returns c =
     let a = c .before .before .before .before .before .before .before .before .before .before .before .before .before .before .args in
     let st = state (a .store .now) (a .work .now) (a .s) in
-    let e = c .before .before .before .before .before .before .before .before .each .ensures (a .work .now) ∙ ap
-    (λ (k : ℕ). authEach st (a .h) (k + length (a .field .now))) (c .before .before .before .before .before .before .before .before .before .chain-length .ensures)
-    in
-    c .before .before .before .before .drop-say .ensures (a .store .now) ∙ delivers (a .resp .now)
-    (piece-refused (a .ch) st (a .h) (a .field .now) _ e (c .before .before .before .before .before .before .before .if1 .taken))
+    let q = c .before .before .before .before .before .before .before .before .before .chain-length .ensures in
+    let e = c .before .before .before .before .before .before .before .before .each .ensures (a .work .now) in
+    c .before .before .before .before .drop-say .ensures (a .store .now)
+    ∙ delivers (a .resp .now) (piece-refused (a .ch) st (a .h) (a .field .now) _ _ q e (c .before .before .before .before .before .before .before .if1 .taken))
 
 hold-piece-requires : tie.Need-hold-piece-requires
 hold-piece-requires c κs =
     let i = c .before .before .before .before .before .before .before .before .before .before in
     let a = i .args in
-    let n = c .before .before .before .before .before .chain-length .result + length (a .field .now) in
-    let t = each-total (state (a .store .now) (a .work .now) (a .s)) (a .h) n
-    (sym (c .before .before .before .before .each .ensures (a .work .now)) ∙ c .before .before .before .if1 .left) in
-    omega (arith, t, c .before .before .before .before .before .chain-length .ensures, i .pre)
+    let st = state (a .store .now) (a .work .now) (a .s) in
+    let q = c .before .before .before .before .before .chain-length .ensures in
+    let e = c .before .before .before .before .each .ensures (a .work .now) in
+    omega (arith, piece-total (a .ch) st (a .h) (a .field .now) _ _ q e (c .before .before .before .if1 .left), i .pre)
 
 say-requires : tie.Need-say-requires
 say-requires c κs = search needs
@@ -64,12 +60,11 @@ returns-2 : tie.Need-returns-2
 returns-2 c =
     let a = c .before .before .before .before .before .before .before .before .before .before .before .before .before .before .before .before .before .args in
     let st = state (a .store .now) (a .work .now) (a .s) in
-    let e = c .before .before .before .before .before .before .before .before .before .before .before .each .ensures (a .work .now) ∙ ap
-    (λ (k : ℕ). authEach st (a .h) (k + length (a .field .now)))
-    (c .before .before .before .before .before .before .before .before .before .before .before .before .chain-length .ensures) in
+    let q = c .before .before .before .before .before .before .before .before .before .before .before .before .chain-length .ensures in
+    let e = c .before .before .before .before .before .before .before .before .before .before .before .each .ensures (a .work .now) in
     c .before .before .say .ensures (a .store .now) (c .before .before .before .before .before .before .hold-piece .last .1 .0)
     ∙ ap (λ (x : State). (delivered (a .resp .now) (says x 0x9000)) .outcome) (c .before .before .before .before .before .before .hold-piece .ensures (a .store .now))
-    ∙ delivers (a .resp .now) (piece-more (a .ch) st (a .h) (a .field .now) _ e
+    ∙ delivers (a .resp .now) (piece-more (a .ch) st (a .h) (a .field .now) _ _ q e
     (c .before .before .before .before .before .before .before .before .before .before .if1 .left)
     (c .before .before .before .before .before .before .before .before .if2 .taken))
 
@@ -77,10 +72,10 @@ last-requires : tie.Need-last-requires
 last-requires c κs =
     let i = c .before .before .before .before .before .before .before .before .before .before .before in
     let a = i .args in
-    let n = c .before .before .before .before .before .before .chain-length .result + length (a .field .now) in
-    let t = each-total (state (a .store .now) (a .work .now) (a .s)) (a .h) n
-    (sym (c .before .before .before .before .before .each .ensures (a .work .now)) ∙ c .before .before .before .before .if1 .left) in
-    omega (arith, t, c .before .before .before .before .before .before .chain-length .ensures, i .pre)
+    let st = state (a .store .now) (a .work .now) (a .s) in
+    let q = c .before .before .before .before .before .before .chain-length .ensures in
+    let e = c .before .before .before .before .before .each .ensures (a .work .now) in
+    omega (arith, piece-total (a .ch) st (a .h) (a .field .now) _ _ q e (c .before .before .before .before .if1 .left), i .pre)
 
 same-length-5 : tie.Need-same-length-5
 same-length-5 c = search needs
@@ -92,12 +87,11 @@ returns-3 : tie.Need-returns-3
 returns-3 c =
     let a = c .before .before .before .before .before .before .before .before .before .before .before .before .before .before .before .before .args in
     let st = state (a .store .now) (a .work .now) (a .s) in
-    let e = c .before .before .before .before .before .before .before .before .before .before .each .ensures (a .work .now) ∙ ap
-    (λ (k : ℕ). authEach st (a .h) (k + length (a .field .now)))
-    (c .before .before .before .before .before .before .before .before .before .before .before .chain-length .ensures) in
-    c .before .before .before .before .last .ensures (a .store .now) ∙ delivers (a .resp .now)
-    (piece-last (a .ch) st (a .h) (a .field .now) _ e (c .before .before .before .before .before .before .before .before .before .if1 .left)
-    (c .before .before .before .before .before .before .before .if2 .left))
+    let q = c .before .before .before .before .before .before .before .before .before .before .before .chain-length .ensures in
+    let e = c .before .before .before .before .before .before .before .before .before .before .each .ensures (a .work .now) in
+    c .before .before .before .before .last .ensures (a .store .now)
+    ∙ delivers (a .resp .now) (piece-last (a .ch) st (a .h) (a .field .now) _ _ q e
+    (c .before .before .before .before .before .before .before .before .before .if1 .left) (c .before .before .before .before .before .before .before .if2 .left))
 
 pub piece-spec : {M : Type 1} → statement M
 piece-spec =

@@ -23,8 +23,8 @@ same-length c = search needs
 returns : tie.Need-returns
 returns c = λ m w.
     let a = c .before .before .before .before .before .before .before .args in
-    c .before .before .say .ensures m w ∙ delivers (a .resp .now)
-    (reply-unasked (state m w (a .s)) (a .ch) (a .reply) (c .before .before .before .before .enum-told .given .1))
+    c .before .before .say .ensures m w
+    ∙ delivers (a .resp .now) (reply-unasked (state m w (a .s)) (a .ch) (a .reply) (c .before .before .before .before .enum-told .given .1))
 
 with-admin-requires : tie.Need-with-admin-requires
 with-admin-requires c κs = search needs

@@ -49,8 +49,8 @@ returns-2 c = λ m w.
     let a = c .before .before .before .before .before .before .before .before .before .before .before .args in
     c .before .before .auth-in .ensures m w
     ∙ delivers (a .resp .now) (whole-some (a .ch) (a .h) (state m w (a .s)) (a .d .now) _ _ _
-    (sym (c .before .before .before .before .before .before .before .before .read-last .ensures) ∙
-    c .before .before .before .before .before .before .from .given .1) (c .before .before .before .part .ensures))
+    (sym (c .before .before .before .before .before .before .before .before .read-last .ensures)
+    ∙ c .before .before .before .before .before .before .from .given .1) (c .before .before .before .part .ensures))
 
 pub whole-spec : {M : Type 1} → statement M
 whole-spec =
