@@ -44,7 +44,7 @@ returns c = λ ss.
     let a = c .before .before .before .before .before .before .before .before .args in
     let st = state (a .store .now) (a .work .now) ss in
     let e = sym (c .before .before .before .power-on .ensures (a .store .now) (a .work .now) ss (a .contactless) (c .before .before .before .before .well-formed .ensures) refl) ∙ c .before .x .given .1 in
-    ap (λ (t : Session). outcome (reply (Refused _) t) (a .store .now) (a .work .now) []) (c .before .before .before .before .before .cleared .ensures)
+    ap (λ (t : Session). outcome (reply (Refused (c .before .x .given .0 .0)) t) (a .store .now) (a .work .now) []) (c .before .before .before .before .before .cleared .ensures)
     ∙ call-denied st (powers (a .contactless)) _ e
 
 same-length : tie.Need-same-length
