@@ -6,4 +6,5 @@ pub mod NoSecond
 pub mod Refs
 pub mod Slots
 pub mod WellFormed
+pub mod Refusals
 pub mod Starred

@@ -3,6 +3,8 @@
 --   Starred       the starred cases of 01, the five wrong cards and the three errors that look harmless: one table
 --   Lengths       the length rule, over the number of length bytes
 --   NoSecond      no second outcome fits a promise of our form
+--   Refusals      a refused call changes no byte
 pub mod Starred
 pub mod Lengths
 pub mod NoSecond
+pub mod Refusals

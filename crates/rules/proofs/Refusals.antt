@@ -1,0 +1,29 @@
+-- A refused call changes nothing (specs/Claims/Refusals).
+-- Assumes nothing.
+use mathlib.Core.Path.{_≡_, refl, ap}
+use mathlib.Core.List.{List}
+use Prim.Native.Nat.{ℕ}
+use Rattle.rules.specs.declared.Refusal.{Refusal}
+use Rattle.rules.specs.declared.Permit.{Permit}
+use Rattle.rules.specs.declared.Permit.the-variants.{Denied}
+use Rattle.rules.specs.Session.{State}
+use Rattle.rules.specs.Calls.{Call, Result, permit, denied, decided, call}
+use Rattle.rules.specs.Claims.Refusals.{Kept, Holds}
+
+pub call-denied : (st : State) (k : Call) (r : Refusal) → permit st k ≡ Denied r → call st k ≡ denied st k r
+unfolding call decided
+call-denied st k r e = ap (decided st k) e
+
+pub refusals : Holds
+unfolding denied
+refusals st k r e =
+    let d : call st k ≡ denied st k r = call-denied st k r e in
+    record {
+      answer = ap (λ (x : Result). x .outcome .reply .answer) d;
+      session = ap (λ (x : Result). x .outcome .reply .session) d;
+      store = ap (λ (x : Result). x .outcome .store) d;
+      work = ap (λ (x : Result). x .outcome .work) d;
+      resp = ap (λ (x : Result). x .outcome .resp) d;
+      steps = ap (λ (x : Result). x .steps) d;
+      wrote = ap (λ (x : Result). x .wrote) d;
+    }
