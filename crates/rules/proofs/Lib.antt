@@ -8,3 +8,4 @@ pub mod Slots
 pub mod WellFormed
 pub mod Refusals
 pub mod Starred
+pub mod Words

@@ -4,7 +4,9 @@
 --   Lengths       the length rule, over the number of length bytes
 --   NoSecond      no second outcome fits a promise of our form
 --   Refusals      a refused call changes no byte
+--   Words         each status word is one that 01 lists for the command
 pub mod Starred
 pub mod Lengths
 pub mod NoSecond
 pub mod Refusals
+pub mod Words
