@@ -6,7 +6,7 @@
 --   adminForm t           what the contents t of an administrator's template say
 --   keyForm key alg t     where the data for a key stand in the contents t
 --   replied st ch r       the administrator's reply r is judged; ch is the challenge held when the call began
---   authWhole ch st h d   GENERAL AUTHENTICATE at the last piece
+--   authWhole ch h st d   GENERAL AUTHENTICATE at the last piece
 --   authenticate ch st h d    GENERAL AUTHENTICATE
 --   resultFits j r        r can be the result of the job j
 --   finished st j failed r    the job j is reported as failed, or as done with the result r

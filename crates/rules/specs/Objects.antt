@@ -6,7 +6,7 @@
 --   objectTag i           the tag of the object in slot i as GET DATA answers it
 --   getSlot st le i       GET DATA of slot i
 --   getData st h d        GET DATA
---   getResponse st h      GET RESPONSE
+--   getResponse st h d    GET RESPONSE
 --   putForm d             what the data of a whole PUT DATA say
 --   putEach st h n        what the rules for each piece of PUT DATA say, n bytes in all
 --   putWhole st d         PUT DATA at the last piece
