@@ -1,36 +1,25 @@
--- Laws: what a rule on references is seen to do, and which rule answers a command.
+-- Laws: which rule answers a command.
 --
---   ref-seen               a rule on references, from its word, its status and its store
 --   ruled-select .. ruled-put    the rule of each INS
 --
 -- Assumes nothing.
-use mathlib.Core.Path.{_≡_, refl, ap, _∙_}
+use mathlib.Core.Path.{_≡_, sym, ap, _∙_}
 use mathlib.Core.List.{List}
 use Prim.Native.Nat.{ℕ}
+use native.Mathlib.Omega.{arith}
 use lib.Dec.{eqb}
 use borrow.Author.Tests.{ne-eqb}
-use Rattle.rules.specs.declared.Answer.the-variants.{Response}
-use Rattle.rules.specs.declared.Chain.the-variants.{Shut}
-use Rattle.rules.specs.declared.Rest.the-variants.{Gone}
 use Rattle.rules.specs.declared.Challenge.{Challenge}
 use Rattle.rules.specs.declared.Header.{Header}
-use Rattle.rules.specs.declared.Session.{Session}
-use Rattle.rules.specs.Bytes.{splice, zeroed, word}
-use Rattle.rules.specs.Session.{State, state, withPin, holding, heldLength}
+use Rattle.rules.specs.Session.{State}
 use Rattle.rules.specs.Held.{dropped}
-use Rattle.rules.specs.Pin.{Said, withGiven, after, verify, change, reset, refsIn, refsOnto, judgedOn, refs, putRefs, onRefs}
+use Rattle.rules.specs.Pin.{refs, onRefs}
 use Rattle.rules.specs.Objects.{select, getData, getResponse, putData}
 use Rattle.rules.specs.Keys.{authenticate}
-use Rattle.rules.specs.Calls.{outcome, reply, delivered, toldBytes, toldAnswer, ruled}
+use Rattle.rules.specs.Calls.{ruled}
 use Rattle.rules.proofs.Tests.{on, off}
-
-pub ref-seen : (s w resp : List ℕ) (ss : Session) (x : Said)
-    → outcome (reply (Response 2) (withPin (holding ss Shut Gone) (judgedOn s (ss .pin) x .judged .given))) (judgedOn s (ss .pin) x .store) (zeroed w (heldLength ss)) (splice resp 0 (word (judgedOn s (ss .pin) x .judged .sw)))
-    ≡ (delivered resp (onRefs (dropped (state s w ss)) x)) .outcome
-unfolding judgedOn delivered toldBytes toldAnswer word onRefs putRefs after withGiven refs refsIn refsOnto dropped
-ref-seen s w resp ss x = refl
-
--- ---- which rule answers
+use Rattle.pin.specs.Rule.{pinRule}
+use Rattle.pin.proofs.Laws.{rule-verify, rule-change, rule-reset}
 
 module _ (st : State) (ch : Challenge) (h : Header) (d : List ℕ) where
   pub ruled-select : h .ins ≡ 0xA4 → ruled st ch h d ≡ select (dropped st) h d
@@ -45,17 +34,18 @@ module _ (st : State) (ch : Challenge) (h : Header) (d : List ℕ) where
   unfolding ruled
   ruled-response e = off _ _ _ (ap (λ (x : ℕ). eqb x 0xA4) e) ∙ off _ _ _ (ap (λ (x : ℕ). eqb x 0xCB) e) ∙ on _ _ _ (ap (λ (x : ℕ). eqb x 0xC0) e)
 
-  pub ruled-verify : h .ins ≡ 0x20 → ruled st ch h d ≡ onRefs (dropped st) (verify (refs st) h d)
+  pub ruled-verify : h .ins ≡ 0x20 → ruled st ch h d ≡ onRefs (dropped st) (pinRule (refs st) h d)
   unfolding ruled
-  ruled-verify e = off _ _ _ (ap (λ (x : ℕ). eqb x 0xA4) e) ∙ off _ _ _ (ap (λ (x : ℕ). eqb x 0xCB) e) ∙ off _ _ _ (ap (λ (x : ℕ). eqb x 0xC0) e) ∙ on _ _ _ (ap (λ (x : ℕ). eqb x 0x20) e)
+  ruled-verify e = off _ _ _ (ap (λ (x : ℕ). eqb x 0xA4) e) ∙ off _ _ _ (ap (λ (x : ℕ). eqb x 0xCB) e) ∙ off _ _ _ (ap (λ (x : ℕ). eqb x 0xC0) e) ∙ on _ _ _ (ap (λ (x : ℕ). eqb x 0x20) e) ∙ ap (onRefs (dropped st)) (sym (rule-verify (refs st) h d e))
 
-  pub ruled-change : h .ins ≡ 0x24 → ruled st ch h d ≡ onRefs (dropped st) (change (refs st) h d)
+  pub ruled-change : h .ins ≡ 0x24 → ruled st ch h d ≡ onRefs (dropped st) (pinRule (refs st) h d)
   unfolding ruled
-  ruled-change e = off _ _ _ (ap (λ (x : ℕ). eqb x 0xA4) e) ∙ off _ _ _ (ap (λ (x : ℕ). eqb x 0xCB) e) ∙ off _ _ _ (ap (λ (x : ℕ). eqb x 0xC0) e) ∙ off _ _ _ (ap (λ (x : ℕ). eqb x 0x20) e) ∙ on _ _ _ (ap (λ (x : ℕ). eqb x 0x24) e)
+  ruled-change e = off _ _ _ (ap (λ (x : ℕ). eqb x 0xA4) e) ∙ off _ _ _ (ap (λ (x : ℕ). eqb x 0xCB) e) ∙ off _ _ _ (ap (λ (x : ℕ). eqb x 0xC0) e) ∙ off _ _ _ (ap (λ (x : ℕ). eqb x 0x20) e) ∙ on _ _ _ (ap (λ (x : ℕ). eqb x 0x24) e) ∙ ap (onRefs (dropped st)) (sym (rule-change (refs st) h d e))
 
-  pub ruled-reset : h .ins ≡ 0x2C → ruled st ch h d ≡ onRefs (dropped st) (reset (refs st) h d)
+  pub ruled-reset : h .ins ≡ 0x2C → ruled st ch h d ≡ onRefs (dropped st) (pinRule (refs st) h d)
   unfolding ruled
   ruled-reset e = off _ _ _ (ap (λ (x : ℕ). eqb x 0xA4) e) ∙ off _ _ _ (ap (λ (x : ℕ). eqb x 0xCB) e) ∙ off _ _ _ (ap (λ (x : ℕ). eqb x 0xC0) e) ∙ off _ _ _ (ap (λ (x : ℕ). eqb x 0x20) e) ∙ off _ _ _ (ap (λ (x : ℕ). eqb x 0x24) e) ∙ on _ _ _ (ap (λ (x : ℕ). eqb x 0x2C) e)
+      ∙ ap (onRefs (dropped st)) (sym (rule-reset (refs st) h d (λ q. let z : _≡_ {A = ℕ} 0x2C 0x20 = sym e ∙ q in omega arith) (λ q. let z : _≡_ {A = ℕ} 0x2C 0x24 = sym e ∙ q in omega arith)))
 
   pub ruled-auth : h .ins ≡ 0x87 → ruled st ch h d ≡ authenticate ch st h d
   unfolding ruled

@@ -1,7 +1,6 @@
 // A command by its own rules (01, "Command by command"): what it drops, and which rule answers it.
 use rules::Challenge;
 use rules::Header;
-use rules::Judged;
 use rules::Reply;
 use rules::Session;
 ghost use mathlib.Core.Path.{_≡_};
@@ -9,73 +8,11 @@ ghost use mathlib.Core.Bool.{true};
 ghost use mathlib.Core.List.{List};
 ghost use Prim.Native.Nat.{ℕ, _≤_};
 ghost use lib.ListN.{length};
-ghost use Rattle.rules.specs.declared.Answer.the-variants.{Response};
-ghost use Rattle.rules.specs.declared.Chain.the-variants.{Shut};
-ghost use Rattle.rules.specs.declared.Rest.the-variants.{Gone};
-ghost use Rattle.rules.specs.Bytes.{splice, zeroed, word};
 ghost use Rattle.rules.specs.Store.{wellFormed};
-ghost use Rattle.rules.specs.Session.{state, withPin, holding, heldLength, restOk};
+ghost use Rattle.rules.specs.Session.{state, heldLength, restOk};
 ghost use Rattle.rules.specs.Held.{dropped};
-ghost use Rattle.rules.specs.Pin.{verify, change, reset, refs, onRefs};
 ghost use Rattle.rules.specs.Objects.{select, getData};
-ghost use Rattle.rules.specs.Calls.{outcome, reply, delivered, ruled};
-
-// ---- VERIFY, CHANGE REFERENCE DATA, RESET RETRY COUNTER
-
-// The steps on the store are made; then what is held is dropped, and the word goes out.
-fn judged(s: Session, work: &mut [u8], resp: &mut [u8], j: Judged) -> Reply
-    requires { ⌜ (258 ≤ length (now resp)) × (heldLength s ≤ 13321) × (length (now work) ≡ 13321) ⌝ }
-    ensures { λ r. ⌜ ((m : List ℕ) → outcome r m (now (work .exit)) (now (resp .exit)) ≡ outcome (reply (Response 2) (withPin (holding s Shut Gone) (j .given))) m (zeroed (now (work .entry)) (heldLength s)) (splice (now (resp .entry)) 0 (word (j .sw)))) ⌝ }
-{
-    let t = held::drop_held(s, work);
-    let given = j.given;
-    held::say(session::with_pin(t, given), resp, j.sw)
-}
-
-fn verify(
-    s: Session,
-    store: &mut [u8],
-    work: &mut [u8],
-    resp: &mut [u8],
-    h: Header,
-    field: &[u8],
-) -> Reply
-    requires { ⌜ (258 ≤ length (now resp)) × (length (now store) ≡ 33400) × (heldLength s ≤ 13321) × (length (now work) ≡ 13321) ⌝ }
-    ensures { λ r. ⌜ outcome r (now (store .exit)) (now (work .exit)) (now (resp .exit)) ≡ (delivered (now (resp .entry)) (onRefs (dropped (state (now (store .entry)) (now (work .entry)) s)) (verify (refs (state (now (store .entry)) (now (work .entry)) s)) h (now (field .entry))))) .outcome ⌝ }
-{
-    let j = pin::verify(store, s.pin, h, field);
-    judged(s, work, resp, j)
-}
-
-fn change(
-    s: Session,
-    store: &mut [u8],
-    work: &mut [u8],
-    resp: &mut [u8],
-    h: Header,
-    field: &[u8],
-) -> Reply
-    requires { ⌜ (258 ≤ length (now resp)) × (length (now store) ≡ 33400) × (heldLength s ≤ 13321) × (length (now work) ≡ 13321) ⌝ }
-    ensures { λ r. ⌜ outcome r (now (store .exit)) (now (work .exit)) (now (resp .exit)) ≡ (delivered (now (resp .entry)) (onRefs (dropped (state (now (store .entry)) (now (work .entry)) s)) (change (refs (state (now (store .entry)) (now (work .entry)) s)) h (now (field .entry))))) .outcome ⌝ }
-{
-    let j = pin::change(store, s.pin, h, field);
-    judged(s, work, resp, j)
-}
-
-fn reset(
-    s: Session,
-    store: &mut [u8],
-    work: &mut [u8],
-    resp: &mut [u8],
-    h: Header,
-    field: &[u8],
-) -> Reply
-    requires { ⌜ (258 ≤ length (now resp)) × (length (now store) ≡ 33400) × (heldLength s ≤ 13321) × (length (now work) ≡ 13321) ⌝ }
-    ensures { λ r. ⌜ outcome r (now (store .exit)) (now (work .exit)) (now (resp .exit)) ≡ (delivered (now (resp .entry)) (onRefs (dropped (state (now (store .entry)) (now (work .entry)) s)) (reset (refs (state (now (store .entry)) (now (work .entry)) s)) h (now (field .entry))))) .outcome ⌝ }
-{
-    let j = pin::reset(store, s.pin, h, field);
-    judged(s, work, resp, j)
-}
+ghost use Rattle.rules.specs.Calls.{outcome, delivered, ruled};
 
 // ---- SELECT and GET DATA drop what is held first
 
@@ -127,13 +64,13 @@ pub fn rule(
         return answers::get_response(s, work, resp, h, field);
     }
     if ins == 0x20 {
-        return verify(s, store, work, resp, h, field);
+        return pin::command(s, store, work, resp, h, field);
     }
     if ins == 0x24 {
-        return change(s, store, work, resp, h, field);
+        return pin::command(s, store, work, resp, h, field);
     }
     if ins == 0x2C {
-        return reset(s, store, work, resp, h, field);
+        return pin::command(s, store, work, resp, h, field);
     }
     if ins == 0x87 {
         return keys::authenticate(ch, s, store, work, resp, h, field);

@@ -14,10 +14,10 @@ select-requires : tie.Need-select-requires
 select-requires c κs = search needs
 
 same-length : tie.Need-same-length
-same-length c = search needs
+same-length c = c .before .before .before .before .select .kept .1 .0
 
 same-length-2 : tie.Need-same-length-2
-same-length-2 c = search needs
+same-length-2 c = c .before .before .before .before .select .kept .1 .1 .0
 
 returns : tie.Need-returns
 returns c =
@@ -32,10 +32,10 @@ same-length-3 : tie.Need-same-length-3
 same-length-3 c = search needs
 
 same-length-4 : tie.Need-same-length-4
-same-length-4 c = search needs
+same-length-4 c = c .before .before .before .before .get-data .kept .1 .1 .0
 
 same-length-5 : tie.Need-same-length-5
-same-length-5 c = search needs
+same-length-5 c = c .before .before .before .before .get-data .kept .1 .1 .1 .0
 
 returns-2 : tie.Need-returns-2
 returns-2 c =
@@ -47,10 +47,10 @@ get-response-requires : tie.Need-get-response-requires
 get-response-requires c κs = search needs
 
 same-length-6 : tie.Need-same-length-6
-same-length-6 c = search needs
+same-length-6 c = c .before .before .before .before .get-response .kept .1 .0
 
 same-length-7 : tie.Need-same-length-7
-same-length-7 c = search needs
+same-length-7 c = c .before .before .before .before .get-response .kept .1 .1 .0
 
 returns-3 : tie.Need-returns-3
 returns-3 c =
@@ -58,64 +58,64 @@ returns-3 c =
     c .before .before .before .before .get-response .ensures (a .store .now)
     ∙ delivers (a .resp .now) (ruled-response (state (a .store .now) (a .work .now) (a .s)) (a .ch) (a .h) (a .field .now) (c .before .before .before .before .before .before .before .if3 .taken))
 
-verify-requires : tie.Need-verify-requires
-verify-requires c κs =
+command-requires : tie.Need-command-requires
+command-requires c κs =
     let i = c .before .before .before .before .before .before .before .before .before .before .before in
     omega (arith, wf-size (i .args .store .now) (i .pre .2), i .pre)
 
 same-length-8 : tie.Need-same-length-8
-same-length-8 c = search needs
+same-length-8 c = c .before .before .before .before .before .before .command .kept .1 .0
 
 same-length-9 : tie.Need-same-length-9
-same-length-9 c = search needs
+same-length-9 c = c .before .before .before .before .before .before .command .kept .1 .1 .0
 
 same-length-10 : tie.Need-same-length-10
-same-length-10 c = search needs
+same-length-10 c = c .before .before .before .before .before .before .command .kept .1 .1 .1 .0
 
 returns-4 : tie.Need-returns-4
 returns-4 c =
     let a = c .before .before .before .before .before .before .before .before .before .before .before .before .before .before .before .before .before .before .args in
-    c .before .before .before .before .before .before .verify .ensures
+    c .before .before .before .before .before .before .command .ensures
     ∙ delivers (a .resp .now) (ruled-verify (state (a .store .now) (a .work .now) (a .s)) (a .ch) (a .h) (a .field .now) (c .before .before .before .before .before .before .before .before .before .before .if4 .taken))
 
-change-requires : tie.Need-change-requires
-change-requires c κs =
+command-requires-2 : tie.Need-command-requires-2
+command-requires-2 c κs =
     let i = c .before .before .before .before .before .before .before .before .before .before .before .before in
     omega (arith, wf-size (i .args .store .now) (i .pre .2), i .pre)
 
 same-length-11 : tie.Need-same-length-11
-same-length-11 c = search needs
+same-length-11 c = c .before .before .before .before .before .before .command2 .kept .1 .0
 
 same-length-12 : tie.Need-same-length-12
-same-length-12 c = search needs
+same-length-12 c = c .before .before .before .before .before .before .command2 .kept .1 .1 .0
 
 same-length-13 : tie.Need-same-length-13
-same-length-13 c = search needs
+same-length-13 c = c .before .before .before .before .before .before .command2 .kept .1 .1 .1 .0
 
 returns-5 : tie.Need-returns-5
 returns-5 c =
     let a = c .before .before .before .before .before .before .before .before .before .before .before .before .before .before .before .before .before .before .before .args in
-    c .before .before .before .before .before .before .change .ensures
+    c .before .before .before .before .before .before .command2 .ensures
     ∙ delivers (a .resp .now) (ruled-change (state (a .store .now) (a .work .now) (a .s)) (a .ch) (a .h) (a .field .now) (c .before .before .before .before .before .before .before .before .before .before .if5 .taken))
 
-reset-requires : tie.Need-reset-requires
-reset-requires c κs =
+command-requires-3 : tie.Need-command-requires-3
+command-requires-3 c κs =
     let i = c .before .before .before .before .before .before .before .before .before .before .before .before .before in
     omega (arith, wf-size (i .args .store .now) (i .pre .2), i .pre)
 
 same-length-14 : tie.Need-same-length-14
-same-length-14 c = search needs
+same-length-14 c = c .before .before .before .before .before .before .command3 .kept .1 .0
 
 same-length-15 : tie.Need-same-length-15
-same-length-15 c = search needs
+same-length-15 c = c .before .before .before .before .before .before .command3 .kept .1 .1 .0
 
 same-length-16 : tie.Need-same-length-16
-same-length-16 c = search needs
+same-length-16 c = c .before .before .before .before .before .before .command3 .kept .1 .1 .1 .0
 
 returns-6 : tie.Need-returns-6
 returns-6 c =
     let a = c .before .before .before .before .before .before .before .before .before .before .before .before .before .before .before .before .before .before .before .before .args in
-    c .before .before .before .before .before .before .reset .ensures
+    c .before .before .before .before .before .before .command3 .ensures
     ∙ delivers (a .resp .now) (ruled-reset (state (a .store .now) (a .work .now) (a .s)) (a .ch) (a .h) (a .field .now) (c .before .before .before .before .before .before .before .before .before .before .if6 .taken))
 
 authenticate-requires : tie.Need-authenticate-requires
@@ -127,10 +127,10 @@ same-length-17 : tie.Need-same-length-17
 same-length-17 c = search needs
 
 same-length-18 : tie.Need-same-length-18
-same-length-18 c = search needs
+same-length-18 c = c .before .before .before .before .authenticate .kept .1 .1 .1 .0
 
 same-length-19 : tie.Need-same-length-19
-same-length-19 c = search needs
+same-length-19 c = c .before .before .before .before .authenticate .kept .1 .1 .1 .1 .0
 
 returns-7 : tie.Need-returns-7
 returns-7 c =
@@ -144,13 +144,13 @@ put-data-requires c κs =
     omega (arith, wf-size (i .args .store .now) (i .pre .2), i .pre)
 
 same-length-20 : tie.Need-same-length-20
-same-length-20 c = search needs
+same-length-20 c = c .before .before .before .before .before .before .put-data .kept .1 .0
 
 same-length-21 : tie.Need-same-length-21
-same-length-21 c = search needs
+same-length-21 c = c .before .before .before .before .before .before .put-data .kept .1 .1 .0
 
 same-length-22 : tie.Need-same-length-22
-same-length-22 c = search needs
+same-length-22 c = c .before .before .before .before .before .before .put-data .kept .1 .1 .1 .0
 
 returns-8 : tie.Need-returns-8
 returns-8 c =
@@ -175,17 +175,17 @@ rule-spec =
     same-length-6
     same-length-7
     returns-3
-    verify-requires
+    command-requires
     same-length-8
     same-length-9
     same-length-10
     returns-4
-    change-requires
+    command-requires-2
     same-length-11
     same-length-12
     same-length-13
     returns-5
-    reset-requires
+    command-requires-3
     same-length-14
     same-length-15
     same-length-16

@@ -1,0 +1,103 @@
+// CHANGE REFERENCE DATA and RESET RETRY COUNTER (01, under these names): an old value and a new one, in one field. Each function mirrors
+// its rule line by line, and makes the steps of its rule in their order: charge, compare, new value, restore.
+use attempt::Form;
+use attempt::Tried;
+use rules::Header;
+use rules::Judged;
+ghost use mathlib.Core.Path.{_≡_};
+ghost use mathlib.Core.Bool.{true, false};
+ghost use lib.ListN.{length};
+ghost use Rattle.rules.specs.Reference.{pinForm, pukForm};
+ghost use Rattle.rules.specs.Command.{thePin, thePuk};
+ghost use Rattle.rules.specs.Pin.{changeOf, change, resetGiven, reset, refsIn, judgement, judgedOn};
+
+// ---- CHANGE REFERENCE DATA
+
+// P2 80: the old PIN and the new one.
+fn change_pin(store: &mut [u8], given: bool, field: &[u8]) -> Judged
+    requires { ⌜ length (now store) ≡ 33400 ⌝ }
+    ensures { λ r. ⌜ judgement r (now (store .exit)) ≡ judgedOn (now (store .entry)) given (changeOf (refsIn (now (store .entry)) given) thePin pinForm true false (now (field .entry))) ⌝ }
+{
+    let tries = steps::pin_left(store);
+    let word = attempt::halves(tries.0, Form::OfPin, Form::OfPin, field);
+    if word != 0x9000 {
+        return Judged { sw: word, given };
+    }
+    if let Tried::Unequal(sw) = attempt::try_pin(store, tries, octets::part(field, 0, 8)) {
+        return Judged { sw, given: false };
+    }
+    steps::new_pin(store, octets::part(field, 8, 8));
+    steps::restore_pin(store);
+    Judged {
+        sw: 0x9000,
+        given: true,
+    }
+}
+
+// P2 81: the old PUK and the new one. The PIN status stays, equal or not.
+fn change_puk(store: &mut [u8], given: bool, field: &[u8]) -> Judged
+    requires { ⌜ length (now store) ≡ 33400 ⌝ }
+    ensures { λ r. ⌜ judgement r (now (store .exit)) ≡ judgedOn (now (store .entry)) given (changeOf (refsIn (now (store .entry)) given) thePuk pukForm given given (now (field .entry))) ⌝ }
+{
+    let tries = steps::puk_left(store);
+    let word = attempt::halves(tries.0, Form::OfPuk, Form::OfPuk, field);
+    if word != 0x9000 {
+        return Judged { sw: word, given };
+    }
+    if let Tried::Unequal(sw) = attempt::try_puk(store, tries, octets::part(field, 0, 8)) {
+        return Judged { sw, given };
+    }
+    steps::new_puk(store, octets::part(field, 8, 8));
+    steps::restore_puk(store);
+    Judged { sw: 0x9000, given }
+}
+
+pub fn change(store: &mut [u8], given: bool, h: Header, field: &[u8]) -> Judged
+    requires { ⌜ length (now store) ≡ 33400 ⌝ }
+    ensures { λ r. ⌜ judgement r (now (store .exit)) ≡ judgedOn (now (store .entry)) given (change (refsIn (now (store .entry)) given) h (now (field .entry))) ⌝ }
+{
+    if h.p1 != 0x00 {
+        return Judged { sw: 0x6A86, given };
+    }
+    if h.p2 == 0x80 {
+        return change_pin(store, given, field);
+    }
+    if h.p2 != 0x81 {
+        return Judged { sw: 0x6A81, given };
+    }
+    change_puk(store, given, field)
+}
+
+// ---- RESET RETRY COUNTER
+
+// The PUK and a new PIN. The PIN status is not restored.
+fn reset_given(store: &mut [u8], given: bool, field: &[u8]) -> Judged
+    requires { ⌜ length (now store) ≡ 33400 ⌝ }
+    ensures { λ r. ⌜ judgement r (now (store .exit)) ≡ judgedOn (now (store .entry)) given (resetGiven (refsIn (now (store .entry)) given) (now (field .entry))) ⌝ }
+{
+    let tries = steps::puk_left(store);
+    let word = attempt::halves(tries.0, Form::OfPuk, Form::OfPin, field);
+    if word != 0x9000 {
+        return Judged { sw: word, given };
+    }
+    if let Tried::Unequal(sw) = attempt::try_puk(store, tries, octets::part(field, 0, 8)) {
+        return Judged { sw, given: false };
+    }
+    steps::new_pin(store, octets::part(field, 8, 8));
+    steps::restore_pin(store);
+    steps::restore_puk(store);
+    Judged { sw: 0x9000, given }
+}
+
+pub fn reset(store: &mut [u8], given: bool, h: Header, field: &[u8]) -> Judged
+    requires { ⌜ length (now store) ≡ 33400 ⌝ }
+    ensures { λ r. ⌜ judgement r (now (store .exit)) ≡ judgedOn (now (store .entry)) given (reset (refsIn (now (store .entry)) given) h (now (field .entry))) ⌝ }
+{
+    if h.p1 != 0x00 {
+        return Judged { sw: 0x6A86, given };
+    }
+    if h.p2 != 0x80 {
+        return Judged { sw: 0x6A81, given };
+    }
+    reset_given(store, given, field)
+}
