@@ -6,6 +6,9 @@ pub mod NoSecond
 pub mod Refs
 pub mod Slots
 pub mod WellFormed
+pub mod StaysWell
+pub mod Kept
+pub mod Invariants
 pub mod Refusals
 pub mod Starred
 pub mod Words

@@ -2,9 +2,11 @@
 --
 --   on off                 which branch of an `iff` is taken
 --   either                 what holds of both branches
+--   branch                 the same, each branch with its test
 --   passes fails negated   a test b that a call answered by r, after the code's test of `!r`
 --   and-left and-right and-both    a conjunction of tests that passes
 --   and-off-left and-off-right     one that does not
+--   and-other              one that does not, though its first test passes
 --   and-end                the last test of a row
 --   or-left or-right or-none or-other or-cases   a disjunction
 --   each-true              each test of a row passes where `allTrue` does
@@ -42,6 +44,11 @@ unfolding iff
 either P true p q = p
 either P false p q = q
 
+pub branch : {A : Type 0} (P : A → Type 0) (b : Bool) {x y : A} → (b ≡ true → P x) → (b ≡ false → P y) → P (iff b x y)
+unfolding iff
+branch P true p q = p refl
+branch P false p q = q refl
+
 -- ---- what a call answered: r ≡ b is its promise, and the code has tested `!r`
 
 pub passes : {r b : Bool} → r ≡ b → not r ≡ false → b ≡ true
@@ -74,6 +81,10 @@ and-off-left false b e = refl
 pub and-off-right : (a b : Bool) → b ≡ false → (a && b) ≡ false
 and-off-right true b e = e
 and-off-right false b e = refl
+
+pub and-other : (a b : Bool) → (a && b) ≡ false → a ≡ true → b ≡ false
+and-other true b e q = e
+and-other false b e q = absurd (false≢true q)
 
 pub and-end : (b : Bool) → (b && true) ≡ b
 and-end true = refl

@@ -5,8 +5,10 @@
 --   NoSecond      no second outcome fits a promise of our form
 --   Refusals      a refused call changes no byte
 --   Words         each status word is one that 01 lists for the command
+--   Invariants    what stays true over every run from an accepted power-on
 pub mod Starred
 pub mod Lengths
 pub mod NoSecond
 pub mod Refusals
 pub mod Words
+pub mod Invariants

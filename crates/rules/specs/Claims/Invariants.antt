@@ -1,0 +1,65 @@
+-- Invariants: what stays true over every run from an accepted power-on (01, "What the host lends", "Calls the host may not make"; demands 1 and 2).
+--
+--   Plain k               what the call k hands in are bytes
+--   Each P ks             P holds of each call of a row
+--   Sane st               what holds of the state st
+--   Pardoned r            the refusal r is none of 1, 2 and 4
+--   Holds                 the claim
+--
+-- So a host that passes store, work area and session on unchanged is never refused by 1, 2 or 4, whatever it sends. Assumes nothing.
+use mathlib.Core.Path.{_≡_}
+use mathlib.Core.Bool.{Bool, true, false}
+use mathlib.Core.List.{List, [], _∷_, _++_}
+use Prim.Native.Nat.{ℕ, _-_, _≤_}
+use lib.ListN.{length, take}
+use Rattle.rules.specs.declared.Refusal.{Refusal}
+use Rattle.rules.specs.declared.Refusal.the-variants.{IllStore, IllSession, ShortResponse, WrongWork, JobOpen, NoJob, WrongResult}
+use Rattle.rules.specs.declared.Permit.the-variants.{Granted, Denied}
+use Rattle.rules.specs.declared.Session.{Session}
+use Rattle.rules.specs.Bytes.{zeros}
+use Rattle.rules.specs.Reference.{Reference, referenceAt}
+use Rattle.rules.specs.Store.{workSize, pinAt, pukAt, wellFormed}
+use Rattle.rules.specs.Session.{State, state, heldLength, possible}
+use Rattle.rules.specs.Calls.{Call, powers, sends, finishes, permit}
+use Rattle.rules.specs.Runs.{endOf}
+use Rattle.rules.specs.Claims.Lengths.{Bytes}
+
+-- a command is a row of bytes
+abbrev pub Plain : Call → Type 0
+Plain (powers air) = Unit {0}
+Plain (sends resp c) = Bytes c
+Plain (finishes resp failed r) = Unit {0}
+
+abbrev pub Each : (Call → Type 0) → List Call → Type 0
+Each P [] = Unit {0}
+Each P (k ∷ ks) = P k × Each P ks
+
+-- held: the work area is the bytes that the session says it holds, and zeros
+-- full, contact: the PIN status is TRUE only with all tries left, and by contact
+-- served: the administrator status is TRUE only by contact
+pub record Sane (st : State) : Type 0 where
+  pub store : wellFormed (st .store) ≡ true
+  pub session : possible (st .session) ≡ true
+  pub size : length (st .work) ≡ workSize
+  pub held : st .work ≡ take (heldLength (st .session)) (st .work) ++ zeros (workSize - heldLength (st .session))
+  pub full : st .session .pin ≡ true → referenceAt (st .store) pinAt .left ≡ referenceAt (st .store) pinAt .limit
+  pub contact : st .session .pin ≡ true → st .session .contactless ≡ false
+  pub served : st .session .admin ≡ true → st .session .contactless ≡ false
+  pub pinTries : referenceAt (st .store) pinAt .left ≤ referenceAt (st .store) pinAt .limit
+  pub pukTries : referenceAt (st .store) pukAt .left ≤ referenceAt (st .store) pukAt .limit
+
+abbrev pub Pardoned : Refusal → Type 0
+Pardoned IllStore = ⊥
+Pardoned IllSession = ⊥
+Pardoned ShortResponse = Unit {0}
+Pardoned WrongWork = ⊥
+Pardoned JobOpen = Unit {0}
+Pardoned NoJob = Unit {0}
+Pardoned WrongResult = Unit {0}
+
+-- whatever session and work area there were before the power-on; calls that are refused, and further power-ons, are part of a run
+pub record Holds : Type 0 where
+  pub always : (s w : List ℕ) (ss : Session) (air : Bool) → permit (state s w ss) (powers air) ≡ Granted
+      → (ks : List Call) → Each Plain ks → Sane (endOf (state s w ss) (powers air ∷ ks))
+  pub passedOn : (s w : List ℕ) (ss : Session) (air : Bool) → permit (state s w ss) (powers air) ≡ Granted
+      → (ks : List Call) → Each Plain ks → (k : Call) (r : Refusal) → permit (endOf (state s w ss) (powers air ∷ ks)) k ≡ Denied r → Pardoned r
