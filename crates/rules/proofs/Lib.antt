@@ -8,7 +8,10 @@ pub mod Slots
 pub mod WellFormed
 pub mod StaysWell
 pub mod Kept
+pub mod Alike
+pub mod Quiet
 pub mod Invariants
+pub mod Secrecy
 pub mod Refusals
 pub mod Starred
 pub mod Words

@@ -6,9 +6,11 @@
 --   Refusals      a refused call changes no byte
 --   Words         each status word is one that 01 lists for the command
 --   Invariants    what stays true over every run from an accepted power-on
+--   Secrecy       a found card tells its finder nothing of the PIN, the PUK and the PIN-read objects
 pub mod Starred
 pub mod Lengths
 pub mod NoSecond
 pub mod Refusals
 pub mod Words
 pub mod Invariants
+pub mod Secrecy
