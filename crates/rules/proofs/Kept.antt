@@ -723,7 +723,7 @@ unfolding obeyed
 obeyed-kept st f still ch c (Failed sw) r = drop-kept st f sw
 obeyed-kept st f still ch c (Passed h) r = ruled-kept st f h (fieldOf c h) still ch r
 
-fine-calm : (st : State) → Fine st → Fine (calm st)
+pub fine-calm : (st : State) → Fine st → Fine (calm st)
 unfolding calm
 fine-calm st f = record {
   wf = f .wf;

@@ -12,6 +12,7 @@ pub mod Alike
 pub mod Quiet
 pub mod Invariants
 pub mod Secrecy
+pub mod Reading
 pub mod Refusals
 pub mod Starred
 pub mod Words

@@ -6,6 +6,7 @@
 --   Refusals      a refused call changes no byte
 --   Words         each status word is one that 01 lists for the command
 --   Invariants    what stays true over every run from an accepted power-on
+--   ReadBack      an object stored is what GET DATA and GET RESPONSEs hand back
 --   Secrecy       a found card tells its finder nothing of the PIN, the PUK and the PIN-read objects
 pub mod Starred
 pub mod Lengths
@@ -13,4 +14,5 @@ pub mod NoSecond
 pub mod Refusals
 pub mod Words
 pub mod Invariants
+pub mod ReadBack
 pub mod Secrecy
