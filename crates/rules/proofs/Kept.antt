@@ -153,7 +153,7 @@ well-fine st g e =
 
 -- ---- what is held
 
-chain-fits : (c : Chain) → chainOk c ≡ true → chainLength c ≤ workSize
+pub chain-fits : (c : Chain) → chainOk c ≡ true → chainLength c ≤ workSize
 chain-fits Shut e = omega arith
 chain-fits (Open ins p1 p2 n) e = leb-true n workSize (and-left (leb n workSize) _ e)
 
@@ -307,7 +307,7 @@ module _ (st : State) (f : Fine st) where
   response-kept h d =
       either (Kept (st .store)) _ (drop-kept _) (either (Kept (st .store)) _ (drop-kept _) (rest-kept (h .le) (st .session .rest) refl))
 
--- ---- references
+  -- ---- references
 
   refs-kept : st .session .contactless ≡ false → (x : Said) → RefsOk (after (refs st) x) → Kept (st .store) (onRefs st x)
   unfolding onRefs putRefs refs refsIn
@@ -452,7 +452,7 @@ slot-kept st f d (Object i from n) =
     λ b. stored-kept st f i (part d from n) (ltb-true i slots (not-false _ a)) (takes-fits (st .store) i n from d (not-false _ b))
 
 -- 9000 only within the total
-put-total : (st : State) (h : Header) (n : ℕ) → putEach st h n ≡ 0x9000 → n ≤ workSize
+pub put-total : (st : State) (h : Header) (n : ℕ) → putEach st h n ≡ 0x9000 → n ≤ workSize
 unfolding putEach
 put-total st h n =
     either (λ (x : ℕ). x ≡ 0x9000 → n ≤ workSize) _ (λ e. absurd (omega (arith, e)))

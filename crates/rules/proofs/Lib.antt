@@ -13,6 +13,9 @@ pub mod Quiet
 pub mod Invariants
 pub mod Secrecy
 pub mod Reading
+pub mod Pieces
+pub mod Gathered
+pub mod ReadBack
 pub mod Refusals
 pub mod Starred
 pub mod Words

@@ -200,9 +200,10 @@ module _ (st : State) (g : Well st) (j : jobOpen (st .session) ≡ false) (whole
 pub rest-read : (bs : List Ask) (a : Ask) (st : State) (whole k : ℕ) → Well st → jobOpen (st .session) ≡ false → st .session .rest ≡ Left whole k → k < whole
     → AskOk a → AsksOk bs → Ends (whole - k) a bs → Reads st (map asking (a ∷ bs)) (part (st .work) k (whole - k))
 unfolding run joined lastWord
-rest-read [] a st whole k g j e h o os n =
-    (ap (λ (r : Result). dataOf r ++ []) (last-fetch st g j whole k e a o n) ∙ append-nil _ ∙ data-delivered (a .resp) _ _ 0x9000,
-    ap wordOf (last-fetch st g j whole k e a o n) ∙ word-delivered (a .resp) _ _ 0x9000)
+rest-read [] a st whole k g j e h o os n = (
+  ap (λ (r : Result). dataOf r ++ []) (last-fetch st g j whole k e a o n) ∙ append-nil _ ∙ data-delivered (a .resp) _ _ 0x9000,
+  ap wordOf (last-fetch st g j whole k e a o n) ∙ word-delivered (a .resp) _ _ 0x9000,
+)
 rest-read (b ∷ bs) a st whole k g j e h o os n =
     let m : ℕ = wanted (a .le) in
     let l : m < whole - k = n .0 in
@@ -210,11 +211,12 @@ rest-read (b ∷ bs) a st whole k g j e h o os n =
     let c : m + (whole - (k + m)) ≡ whole - k = omega arith in
     let q : whole - k - m ≡ whole - (k + m) = omega arith in
     let r : Reads t (map asking (b ∷ bs)) (part (st .work) (k + m) (whole - (k + m))) =
-    rest-read bs b t whole (k + m) (next-well st g j whole k e a o l) j refl (omega arith) (os .0) (os .1) (subst (λ (x : ℕ). Ends x b bs) q (n .1)) in
-    (ap₂ (λ (x : Result) (y : State). dataOf x ++ joined (run y (map asking (b ∷ bs)))) (next-fetch st g j whole k e a o l) (next-leaves st g j whole k e a o l)
-    ∙ ap₂ (λ (x y : List ℕ). x ++ y) (data-delivered (a .resp) t _ _) (r .0)
-    ∙ part-add (st .work) k m (whole - (k + m)) ∙ ap (part (st .work) k) c,
-    ap (λ (x : State). lastWord (run x (map asking (b ∷ bs)))) (next-leaves st g j whole k e a o l) ∙ r .1)
+    rest-read bs b t whole (k + m) (next-well st g j whole k e a o l) j refl (omega arith) (os .0) (os .1) (subst (λ (x : ℕ). Ends x b bs) q (n .1)) in (
+      ap₂ (λ (x : Result) (y : State). dataOf x ++ joined (run y (map asking (b ∷ bs)))) (next-fetch st g j whole k e a o l) (next-leaves st g j whole k e a o l)
+          ∙ ap₂ (λ (x y : List ℕ). x ++ y) (data-delivered (a .resp) t _ _) (r .0)
+          ∙ part-add (st .work) k m (whole - (k + m)) ∙ ap (part (st .work) k) c,
+      ap (λ (x : State). lastWord (run x (map asking (b ∷ bs)))) (next-leaves st g j whole k e a o l) ∙ r .1,
+    )
 
 -- ---- GET DATA
 
@@ -258,9 +260,10 @@ module _ (st : State) (g : Well st) (j : jobOpen (st .session) ≡ false) (i : �
   said : (sw : ℕ) → getSlot seen (wanted (a .le)) i ≡ says seen sw → sw / 256 % 256 * 256 + sw % 256 ≡ sw
       → (joined (run st (reading i a [])) ≡ []) × (lastWord (run st (reading i a [])) ≡ sw)
   unfolding run joined lastWord reading
-  said sw e w =
-      (ap (λ (r : Result). dataOf r ++ []) (gets-slot ∙ ap (delivered (a .resp)) e) ∙ append-nil _ ∙ data-delivered (a .resp) seen [] sw,
-      ap wordOf (gets-slot ∙ ap (delivered (a .resp)) e) ∙ word-delivered (a .resp) seen [] sw ∙ w)
+  said sw e w = (
+    ap (λ (r : Result). dataOf r ++ []) (gets-slot ∙ ap (delivered (a .resp)) e) ∙ append-nil _ ∙ data-delivered (a .resp) seen [] sw,
+    ap wordOf (gets-slot ∙ ap (delivered (a .resp)) e) ∙ word-delivered (a .resp) seen [] sw ∙ w,
+  )
 
   -- ---- an answer that goes out, whole or in parts
 
@@ -298,18 +301,20 @@ module _ (st : State) (g : Well st) (j : jobOpen (st .session) ≡ false) (i : �
 
     pub sends-all : Bytes (gets i (a .le)) → (bs : List Ask) → AsksOk bs → Ends (length d) a bs → Reads st (reading i a bs) d
     unfolding run joined lastWord reading
-    sends-all by [] os n =
-        (ap (λ (r : Result). dataOf r ++ []) (once n) ∙ append-nil _ ∙ data-delivered (a .resp) seen d 0x9000,
-        ap wordOf (once n) ∙ word-delivered (a .resp) seen d 0x9000)
+    sends-all by [] os n = (
+      ap (λ (r : Result). dataOf r ++ []) (once n) ∙ append-nil _ ∙ data-delivered (a .resp) seen d 0x9000,
+      ap wordOf (once n) ∙ word-delivered (a .resp) seen d 0x9000,
+    )
     sends-all by (b ∷ bs) os n =
         let m : ℕ = wanted (a .le) in
         let l : m < length d = n .0 in
         let r : Reads begun (map asking (b ∷ bs)) (part (splice (seen .work) 0 d) m (length d - m)) =
-        rest-read bs b begun (length d) m (begun-well by l) job-shut refl l (os .0) (os .1) (n .1) in
-        (ap₂ (λ (x : Result) (y : State). dataOf x ++ joined (run y (map asking (b ∷ bs)))) (begins l) (begun-leaves l)
-        ∙ ap₂ (λ (x y : List ℕ). x ++ y) (data-delivered (a .resp) begun _ _) (r .0 ∙ held-part m (omega arith))
-        ∙ take-append-drop m d,
-        ap (λ (x : State). lastWord (run x (map asking (b ∷ bs)))) (begun-leaves l) ∙ r .1)
+        rest-read bs b begun (length d) m (begun-well by l) job-shut refl l (os .0) (os .1) (n .1) in (
+          ap₂ (λ (x : Result) (y : State). dataOf x ++ joined (run y (map asking (b ∷ bs)))) (begins l) (begun-leaves l)
+              ∙ ap₂ (λ (x y : List ℕ). x ++ y) (data-delivered (a .resp) begun _ _) (r .0 ∙ held-part m (omega arith))
+              ∙ take-append-drop m d,
+          ap (λ (x : State). lastWord (run x (map asking (b ∷ bs)))) (begun-leaves l) ∙ r .1,
+        )
 
 -- ---- what is said of a slot
 

@@ -19,7 +19,6 @@ use Rattle.rules.specs.Claims.Secrecy.{noEqual, NoneEqual, Alike, Same, 
 use Rattle.rules.proofs.Quiet.{Pair, Twin, twin, Quiet, tries-same, command-quiet, finished-quiet}
 use Rattle.rules.proofs.Invariants.{Lets, granted-lets}
 
-
 -- two results that show the same, with stores that are a pair
 data Shows : Result → Result → Type 0 where
   shows : (a : Answer) (ss : Session) (w resp : List ℕ) (ps : List Step) (o : Wrote) (s t : List ℕ) → ss .pin ≡ false → Pair s t

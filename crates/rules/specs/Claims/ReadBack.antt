@@ -129,7 +129,7 @@ pub record Puts (cla : ℕ) (st : State) (k : Call) (d : List ℕ) : Type 0 wher
 -- in one piece, or in any number of them, of any lengths; refused calls may stand between
 pub data Pieces : State → List Call → List ℕ → Type 0 where
   last : (st : State) (k : Call) (d : List ℕ) → Puts 0x00 st k d → Pieces st (k ∷ []) d
-  piece : (st : State) (k : Call) (ks : List Call) (a d : List ℕ) → Puts 0x10 st k a → Pieces (leaves (call st k)) ks d → Pieces st (k ∷ ks) (a ++ d)
+  next : (st : State) (k : Call) (ks : List Call) (a d : List ℕ) → Puts 0x10 st k a → Pieces (leaves (call st k)) ks d → Pieces st (k ∷ ks) (a ++ d)
   refused : (st : State) (k : Call) (ks : List Call) (d : List ℕ) (r : Refusal) → permit st k ≡ Denied r → Pieces (leaves (call st k)) ks d → Pieces st (k ∷ ks) d
 
 abbrev pub Untouched : ℕ → State → List Call → Type 0
