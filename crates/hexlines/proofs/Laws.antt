@@ -1,0 +1,70 @@
+-- Laws: the fixed card, a command's turn, and the line that is printed.
+--
+--   fixed-whole            the head and the zeros behind it are the fixed card
+--   turned                 a command's turn, by its answer
+--   printed-length print-end    the hex of a response, and the end of its line
+--
+-- Assumes nothing.
+use mathlib.Core.Path.{_≡_, refl, ap, ap₂, sym, _∙_}
+use mathlib.Core.List.{List, [], _∷_, _++_}
+use Prim.Native.Nat.{ℕ, _+_, _*_, _≤_, _<_, min}
+use native.Mathlib.Omega.{arith}
+use lib.ListN.{length, take, length-append, length-take}
+use lib.Seq.{take-all}
+use Rattle.rules.specs.declared.Answer.{Answer}
+use Rattle.rules.specs.declared.Reply.{Reply}
+use Rattle.rules.specs.Bytes.{part, splice, zeros}
+use Rattle.rules.specs.Session.{State}
+use Rattle.rules.specs.Calls.{Outcome, outcome, sends, call}
+use Rattle.rules.specs.Claims.Starred.{hex, fixed}
+use Rattle.rules.proofs.Tests.{by-order}
+use Rattle.rules.proofs.Lists.{join-start}
+use Rattle.octets.proofs.Laws.{length-zeros, splice-next}
+use Rattle.reference.proofs.Laws.{whole}
+use Rattle.text.specs.Text.{hexOf}
+use Rattle.text.proofs.Laws.{length-hex}
+use Rattle.hexlines.specs.HexLines.{closed, turn}
+
+-- ---- the fixed card
+
+abbrev pub head : List ℕ
+head = hex 32 0x4F50430001000000_0303313233343536FFFF_03033132333435363738_00000000
+
+pub fixed-whole : (s x y : List ℕ) → length s ≡ 33400 → x ≡ splice s 0 head → y ≡ splice x 32 (zeros 33368) → y ≡ fixed
+unfolding fixed
+fixed-whole s x y h p q =
+    let l : length (head ++ zeros 33368) ≡ 33400 = length-append head (zeros 33368) ∙ ap (λ (n : ℕ). 32 + n) (length-zeros 33368) in
+    q ∙ ap (λ (t : List ℕ). splice t 32 (zeros 33368)) p
+    ∙ join-start s head (zeros 33368) (omega (arith, length-zeros 33368)) ∙ whole s (head ++ zeros 33368) (omega arith)
+
+-- ---- a command
+
+pub turned : (st : State) (resp c : List ℕ) (r : Reply) (s w p : List ℕ) → outcome r s w p ≡ (call st (sends resp c)) .outcome
+    → (a : Answer) → r .answer ≡ a → closed a (outcome r s w p) ≡ turn st resp c
+unfolding turn
+turned st resp c r s w p e a q =
+    ap (λ (b : Answer). closed b (outcome r s w p)) (sym q) ∙ ap (λ (o : Outcome). closed (o .reply .answer) o) e
+
+-- ---- a line that is printed
+
+shown-part : (s : List ℕ) (k n : ℕ) → n ≡ min k (length s) → part s 0 n ≡ take k s
+unfolding part
+shown-part s k n e =
+    by-order k (length s)
+    (λ h. let q : n ≡ k = omega arith in ap (λ (m : ℕ). take m s) q)
+    (λ h. take-all n s (omega arith) ∙ sym (take-all k s h))
+
+pub printed-length : (resp v : List ℕ) (k n : ℕ) → n ≡ min k (length resp) → v ≡ part resp 0 n → length v ≤ length resp
+printed-length resp v k n few p = omega (arith, ap length (p ∙ shown-part resp k n few), length-take k resp)
+
+pub print-end : (out resp v x y : List ℕ) (k n e : ℕ) → n ≡ min k (length resp) → v ≡ part resp 0 n
+    → e ≡ 0 + 2 * length v → x ≡ splice out 0 (hexOf v) → y ≡ splice x e (10 ∷ []) → 2 * length resp + 1 ≤ length out
+    → (e + 1 ≡ length (hexOf (take k resp) ++ (10 ∷ []))) × (y ≡ splice out 0 (hexOf (take k resp) ++ (10 ∷ [])))
+print-end out resp v x y k n e few p q r t room =
+    let z : v ≡ take k resp = p ∙ shown-part resp k n few in
+    let l : e ≡ 0 + length (hexOf v) = omega (arith, length-hex v) in (
+      omega (arith, length-append (hexOf (take k resp)) (10 ∷ []), length-hex v, ap (λ (u : List ℕ). length (hexOf u)) z),
+      t ∙ ap₂ {C = List ℕ} (λ (u : List ℕ) (i : ℕ). splice u i (10 ∷ [])) r l
+          ∙ splice-next out (hexOf v) (10 ∷ []) 0 (omega (arith, length-hex v, printed-length resp v k n few p))
+          ∙ ap (λ (u : List ℕ). splice out 0 (hexOf u ++ (10 ∷ []))) z,
+    )

@@ -1,0 +1,76 @@
+-- A bad line, or the turn of a command and what it prints.
+-- Assumes nothing.
+use mathlib.Core.Path.{sym, ap, ap₂, _∙_}
+use mathlib.Core.List.{List}
+use Prim.Native.Nat.{ℕ}
+use denote.Ref.{now}
+use Rattle.rules.specs.Calls.{Outcome}
+use Rattle.rules.proofs.Tests.{on, off, passes, fails}
+use Rattle.hexlines.specs.HexLines.{Seen, seen, printed, told, refused, answered}
+use borrow.Author.Needs.{needs}
+use Rattle.hexlines.proofs.answer.Statement.{statement}
+use Rattle.hexlines.proofs.answer.Tie as tie
+
+is-command-requires : tie.Need-is-command-requires
+is-command-requires c κs = search needs
+
+slice-aggregate-put : tie.Need-slice-aggregate-put
+slice-aggregate-put c = search needs
+
+put-requires : tie.Need-put-requires
+put-requires c κs = search needs
+
+same-length : tie.Need-same-length
+same-length c = search needs
+
+returns : tie.Need-returns
+unfolding answered refused
+returns c =
+    let a = c .before .before .before .before .before .before .before .before .before .before .before .before .args in
+    ap (seen (a .session) (now (a .store)) (now (a .work)) (now (a .resp)) 9) (c .before .before .put .ensures)
+    ∙ sym (off _ _ _ (fails (c .before .before .before .before .before .before .is-command .ensures) (c .before .before .before .before .before .if1 .taken)))
+
+turn-requires : tie.Need-turn-requires
+turn-requires c κs = search needs
+
+print-requires : tie.Need-print-requires
+print-requires c κs = search needs
+
+same-length-2 : tie.Need-same-length-2
+same-length-2 c = search needs
+
+same-length-3 : tie.Need-same-length-3
+same-length-3 c = search needs
+
+same-length-4 : tie.Need-same-length-4
+same-length-4 c = search needs
+
+same-length-5 : tie.Need-same-length-5
+same-length-5 c = search needs
+
+returns-2 : tie.Need-returns-2
+unfolding answered told printed
+returns-2 c =
+    let a = c .before .before .before .before .before .before .before .before .before .before .before .before .before .before .before .before .before .before .before .before .before .before .before .args in
+    let t = c .before .before .before .before .before .before .before .before .before .before .before .before .turn in
+    let p = c .before .before .print in
+    ap₂ {C = Seen} (λ (n : ℕ) (o : List ℕ). seen (t .result .session) (t .last .1 .0) (t .last .1 .1 .0) (t .last .1 .1 .1 .0) n o) (p .ensures .0) (p .ensures .1)
+    ∙ ap (λ (o : Outcome). told o (now (a .out))) (t .ensures)
+    ∙ sym (on _ _ _ (passes (c .before .before .before .before .before .before .before .before .before .before .before .before .before .before .before .before .before .is-command .ensures) (c .before .before .before .before .before .before .before .before .before .before .before .before .before .before .before .before .if1 .left)))
+
+pub answer-spec : {M : Type 1} → statement M
+answer-spec =
+    tie.close
+    (tie.spec
+    is-command-requires
+    slice-aggregate-put
+    put-requires
+    same-length
+    returns
+    turn-requires
+    print-requires
+    same-length-2
+    same-length-3
+    same-length-4
+    same-length-5
+    returns-2)

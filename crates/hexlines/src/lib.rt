@@ -1,0 +1,150 @@
+// Hex lines: the program of 01's "Checked examples", line by line: the fixed card, and what a line comes to on it.
+use rules::Answer;
+use rules::Reply;
+use rules::Session;
+ghost use mathlib.Core.Path.{_≡_};
+ghost use mathlib.Core.List.{_++_, [], _∷_};
+ghost use Prim.Native.Nat.{_+_, _*_, _≤_, min};
+ghost use lib.ListN.{length, take};
+ghost use Rattle.rules.specs.Bytes.{splice};
+ghost use Rattle.rules.specs.Session.{state};
+ghost use Rattle.rules.specs.Calls.{outcome};
+ghost use Rattle.rules.specs.Claims.Starred.{fixed};
+ghost use Rattle.text.specs.Text.{bytesOf, hexOf};
+ghost use Rattle.hexlines.specs.HexLines.{isCommand, badLine, seen, answered};
+ghost use Rattle.hexlines.specs.HexLines.{shown as HexLines·shown, turn as HexLines·turn};
+
+// What a line leaves: the session, and the number of bytes that are to be printed.
+pub struct Said {
+    pub session: Session,
+    pub len: usize,
+}
+
+// PIN 123456, PUK 12345678, limits 3, all tries left, no keys.
+const HEAD: [u8; 32] = [
+    0x4F,
+    0x50,
+    0x43,
+    0x00,
+    0x01,
+    0x00,
+    0x00,
+    0x00,
+    0x03,
+    0x03,
+    0x31,
+    0x32,
+    0x33,
+    0x34,
+    0x35,
+    0x36,
+    0xFF,
+    0xFF,
+    0x03,
+    0x03,
+    0x31,
+    0x32,
+    0x33,
+    0x34,
+    0x35,
+    0x36,
+    0x37,
+    0x38,
+    0x00,
+    0x00,
+    0x00,
+    0x00,
+];
+
+const BAD_LINE: [u8; 9] = [98, 97, 100, 32, 108, 105, 110, 101, 10];
+
+pub fn fixed_card(store: &mut [u8])
+    requires { ⌜ length (now store) ≡ 33400 ⌝ }
+    ensures { λ _. ⌜ now (store .exit) ≡ fixed ⌝ }
+{
+    let head = HEAD;
+    octets::put(store, 0, &head);
+    octets::zero(store, 32, 33368);
+}
+
+fn is_command(line: &[u8]) -> bool
+    ensures { λ r. ⌜ r ≡ isCommand (now (line .entry)) ⌝ }
+{
+    if line.len() == 0 {
+        return false;
+    }
+    text::is_hex(line)
+}
+
+// A job that is opened is reported as failed at once.
+fn turn(session: Session, store: &mut [u8], work: &mut [u8], resp: &mut [u8], line: &[u8]) -> Reply
+    ensures { λ r. ⌜ outcome r (now (store .exit)) (now (work .exit)) (now (resp .exit)) ≡ HexLines·turn (state (now (store .entry)) (now (work .entry)) session) (now (resp .entry)) (bytesOf (now (line .entry))) ⌝ }
+{
+    let r = hexcalls::command(session, store, work, resp, line);
+    let a = r.answer;
+    let s = r.session;
+    match a {
+        Answer::JobOpened {
+            key: _,
+            alg: _,
+            len: _,
+        } => card::job_result(s, store, work, resp, true, &line[0..0]),
+        Answer::PoweredOn => r,
+        Answer::Response { len: _ } => r,
+        Answer::Refused(_) => r,
+    }
+}
+
+// How many bytes of the response buffer are printed.
+fn shown(a: Answer, most: usize) -> usize
+    ensures { λ r. ⌜ r ≡ min (HexLines·shown a) most ⌝ }
+{
+    match a {
+        Answer::PoweredOn => 0,
+        Answer::Response { len } => {
+            if len < most {
+                return len;
+            }
+            most
+        }
+        Answer::JobOpened {
+            key: _,
+            alg: _,
+            len: _,
+        } => 0,
+        Answer::Refused(_) => 0,
+    }
+}
+
+fn print(a: Answer, resp: &[u8], out: &mut [u8]) -> usize
+    requires { ⌜ 2 * length (now resp) + 1 ≤ length (now out) ⌝ }
+    ensures { λ r. ⌜ (r ≡ length (hexOf (take (HexLines·shown a) (now (resp .entry))) ++ (10 ∷ []))) × (now (out .exit) ≡ splice (now (out .entry)) 0 (hexOf (take (HexLines·shown a) (now (resp .entry))) ++ (10 ∷ []))) ⌝ }
+{
+    let n = shown(a, resp.len());
+    let end = text::write_hex(out, 0, octets::part(resp, 0, n));
+    octets::put_byte(out, end, 10);
+    end + 1
+}
+
+pub fn answer(
+    session: Session,
+    store: &mut [u8],
+    work: &mut [u8],
+    resp: &mut [u8],
+    line: &[u8],
+    out: &mut [u8],
+) -> Said
+    requires { ⌜ 2 * length (now resp) + 9 ≤ length (now out) ⌝ }
+    ensures { λ r. ⌜ seen (r .session) (now (store .exit)) (now (work .exit)) (now (resp .exit)) (r .len) (now (out .exit)) ≡ answered (state (now (store .entry)) (now (work .entry)) session) (now (resp .entry)) (now (line .entry)) (now (out .entry)) ⌝ }
+{
+    if !is_command(line) {
+        let bad = BAD_LINE;
+        octets::put(out, 0, &bad);
+        return Said { session, len: 9 };
+    }
+    let r = turn(session, store, work, resp, line);
+    let a = r.answer;
+    let s = r.session;
+    let len = print(a, resp, out);
+    Said { session: s, len }
+}

@@ -1,0 +1,103 @@
+-- Laws: the hex of a row of bytes, and the bytes of a row of digits, place by place.
+--
+--   digit-small            a digit is below 16
+--   bytes-at length-bytes  the bytes of a row of digits
+--   filled                 a row that is filled with the start of another
+--   hex-high hex-low length-hex    the digits of a row of bytes
+--   hex-append             the hex of two rows, one behind the other
+--   keep-fits              a line that is kept fits its buffer
+--   all-at all-end         a row of digits tested from a place on
+--
+-- Assumes nothing.
+use mathlib.Core.Path.{_≡_, refl, sym, ap, subst, _∙_}
+use mathlib.Core.Bool.{Bool, true, false, _&&_}
+use mathlib.Core.List.{List, [], _∷_, _++_, append-nil}
+use Prim.Native.Nat.{ℕ, zero, suc, _+_, _-_, _*_, _/_, _%_, _≤_, _<_}
+use native.Mathlib.Nat.{not-suc-le-zero, le-of-suc-le-suc}
+use native.Mathlib.Numerals.{add-one}
+use native.Mathlib.Omega.{arith}
+use lib.Dec.{leb}
+use lib.ListN.{length, take, drop, getD, drop-of-length-le}
+use lib.Seq.{drop-cons}
+use borrow.Author.Tests.{leb-true, lt-ltb, le-ltb}
+use Rattle.rules.specs.Bytes.{iff, all}
+use Rattle.rules.proofs.Tests.{on, off, either, by-order, and-right}
+use Rattle.text.specs.Text.{between, isDigit, digitOf, bytesOf, glyph, hexOf, Kept, kept, keep}
+
+-- ---- digits
+
+by-range : (a b k d rest : ℕ) → b ≤ k + 15 → rest ≤ 15 → iff (between a b d) (d - k) rest ≤ 15
+unfolding iff
+by-range a b k d rest h r = go (between a b d) refl
+  where
+    go : (t : Bool) → between a b d ≡ t → iff t (d - k) rest ≤ 15
+    go true e = omega (arith, leb-true d b (and-right (leb a d) (leb d b) e))
+    go false e = r
+
+pub digit-small : (d : ℕ) → digitOf d ≤ 15
+unfolding digitOf
+digit-small d = by-range 48 57 48 d _ (omega arith) (by-range 65 70 55 d _ (omega arith) (by-range 97 102 87 d 0 (omega arith) (omega arith)))
+
+-- ---- bytes of digits
+
+pub bytes-at : (l : List ℕ) (i : ℕ) → 2 * i + 1 < length l → getD (bytesOf l) i 0 ≡ digitOf (getD l (2 * i) 0) * 16 + digitOf (getD l (2 * i + 1) 0)
+bytes-at [] i h = absurd (not-suc-le-zero h)
+bytes-at (a ∷ []) i h = absurd (omega arith)
+bytes-at (a ∷ (b ∷ l)) zero h = refl
+bytes-at (a ∷ (b ∷ l)) (suc i) h =
+    let e : 2 * suc i ≡ suc (suc (2 * i)) = omega arith in
+    let o : 2 * suc i + 1 ≡ suc (suc (2 * i + 1)) = omega arith in
+    rw (o, e) (bytes-at l i (omega arith))
+
+pub length-bytes : (l : List ℕ) → length (bytesOf l) ≡ length l / 2
+length-bytes [] = refl
+length-bytes (a ∷ []) = refl
+length-bytes (a ∷ (b ∷ l)) = omega (arith, length-bytes l)
+
+pub filled : (n : ℕ) (s d : List ℕ) → n ≡ length d → take n s ++ drop n d ≡ take (length d) s
+filled n s d e =
+    let h : length d ≤ n = omega arith in
+    ap (λ (t : List ℕ). take n s ++ t) (drop-of-length-le d h) ∙ append-nil (take n s) ∙ ap (λ (k : ℕ). take k s) e
+
+-- ---- digits of bytes
+
+pub length-hex : (s : List ℕ) → length (hexOf s) ≡ 2 * length s
+length-hex [] = refl
+length-hex (b ∷ s) = omega (arith, length-hex s)
+
+pub hex-high : (s : List ℕ) (i : ℕ) → i < length s → getD (hexOf s) (2 * i) 0 ≡ glyph (getD s i 0 / 16)
+hex-high [] i h = absurd (not-suc-le-zero h)
+hex-high (b ∷ s) zero h = refl
+hex-high (b ∷ s) (suc i) h =
+    let e : 2 * suc i ≡ suc (suc (2 * i)) = omega arith in
+    rw e (hex-high s i (le-of-suc-le-suc h))
+
+pub hex-low : (s : List ℕ) (i : ℕ) → i < length s → getD (hexOf s) (2 * i + 1) 0 ≡ glyph (getD s i 0 % 16)
+hex-low [] i h = absurd (not-suc-le-zero h)
+hex-low (b ∷ s) zero h = refl
+hex-low (b ∷ s) (suc i) h =
+    let e : 2 * suc i + 1 ≡ suc (suc (2 * i + 1)) = omega arith in
+    rw e (hex-low s i (le-of-suc-le-suc h))
+
+pub hex-append : (a b : List ℕ) → hexOf (a ++ b) ≡ hexOf a ++ hexOf b
+hex-append [] b = refl
+hex-append (x ∷ a) b = ap (λ (l : List ℕ). glyph (x / 16) ∷ (glyph (x % 16) ∷ l)) (hex-append a b)
+
+-- ---- a line that is kept
+
+pub keep-fits : (s : List ℕ) (n b m : ℕ) (x : List ℕ) → n ≤ length s → kept m x ≡ keep s n b → m ≤ length s
+unfolding keep
+keep-fits s n b m x h e =
+    subst (λ (k : Kept). k .len ≤ length s) (sym e)
+    (by-order n (length s)
+    (λ l. subst (λ (k : Kept). k .len ≤ length s) (sym (on _ _ _ (lt-ltb n (length s) l))) (omega arith))
+    (λ l. subst (λ (k : Kept). k .len ≤ length s) (sym (off _ _ _ (le-ltb n (length s) l)))
+    (either (λ (k : Kept). k .len ≤ length s) (isDigit b && isDigit (getD s (n - 1) 0)) (omega arith) h)))
+
+-- ---- a row of digits tested
+
+pub all-at : (f : ℕ → Bool) (l : List ℕ) (i : ℕ) → i < length l → all f (drop i l) ≡ (f (getD l i 0) && all f (drop (i + 1) l))
+all-at f l i h = rw (add-one, drop-cons l i 0 h)
+
+pub all-end : (f : ℕ → Bool) (l : List ℕ) (i : ℕ) → length l ≤ i → all f (drop i l) ≡ true
+all-end f l i h = rw (drop-of-length-le l h)

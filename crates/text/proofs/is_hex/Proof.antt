@@ -1,0 +1,82 @@
+-- The loop's invariant: the row is of digits where its rest from i on is.
+-- Assumes nothing.
+use mathlib.Core.Path.{_≡_, refl, sym, ap, _∙_}
+use mathlib.Core.Bool.{Bool, _&&_}
+use Prim.Native.Nat.{_+_, _-_, _≤_, _%_}
+use denote.Ref.{now}
+use lib.Dec.{eqb}
+use lib.ListN.{length, drop}
+use borrow.Author.Tests.{eq-eqb, ne-eqb}
+use Rattle.rules.specs.Bytes.{all}
+use Rattle.rules.proofs.Tests.{passes, fails, and-both, and-off-left, and-off-right}
+use Rattle.text.specs.Text.{isDigit, isHex}
+use Rattle.text.proofs.Laws.{all-at, all-end}
+use native.Mathlib.Omega.{arith}
+use borrow.Author.Needs.{needs}
+use Rattle.text.proofs.is_hex.Statement.{statement}
+use Rattle.text.proofs.is_hex.Tie as tie
+
+abbrev Inv-loop : tie.InvT-loop
+Inv-loop l i₀ i = (i ≤ length l) × (all isDigit l ≡ all isDigit (drop i l))
+
+abbrev μ-loop : tie.MeasureT-loop
+μ-loop l i₀ i = length l - i
+
+returns : tie.Need-returns Inv-loop μ-loop
+unfolding isHex
+returns c = sym (and-off-left _ _ (ne-eqb _ _ (c .if1 .taken)))
+
+loop-holds : tie.Need-loop-holds Inv-loop μ-loop
+loop-holds c = (search needs, refl)
+
+shared-slice-read-is-digit : tie.Need-shared-slice-read-is-digit Inv-loop μ-loop
+shared-slice-read-is-digit c = omega arith
+
+is-digit-requires : tie.Need-is-digit-requires Inv-loop μ-loop
+is-digit-requires c κs = omega arith
+
+returns-2 : tie.Need-returns-2 Inv-loop μ-loop
+unfolding isHex
+returns-2 c =
+    let l = c .before .before .before .before .loop in
+    let s = now (c .before .before .before .before .before .before .before .args .l) in
+    sym (and-off-right (eqb (length s % 2) 0) _ (l .inv .1 ∙ all-at isDigit s (l .i) (c .before .before .before .loop-test .taken)
+    ∙ and-off-left _ _ (fails (c .before .is-digit .ensures) (c .if2 .taken))))
+
+add-i : tie.Need-add-i Inv-loop μ-loop
+add-i c = omega arith
+
+loop-less : tie.Need-loop-less Inv-loop μ-loop
+loop-less c = omega arith
+
+loop-again : tie.Need-loop-again Inv-loop μ-loop
+loop-again c =
+    let l = c .before .before .before .before .loop in
+    let s = now (c .before .before .before .before .before .before .before .args .l) in (
+      omega arith,
+      l .inv .1 ∙ all-at isDigit s (l .i) (c .before .before .before .loop-test .taken)
+          ∙ ap (λ (t : Bool). t && all isDigit (drop (l .i + 1) s)) (passes (c .before .is-digit .ensures) (c .if2 .left)),
+    )
+
+returns-3 : tie.Need-returns-3 Inv-loop μ-loop
+unfolding isHex
+returns-3 c =
+    let l = c .before .loop in
+    let s = now (c .before .before .before .before .args .l) in
+    sym (and-both (eqb (length s % 2) 0) _ (eq-eqb _ _ (c .before .before .if1 .left)) (l .inv .1 ∙ all-end isDigit s (l .i) (c .loop-test .left)))
+
+pub is-hex-spec : {M : Type 1} → statement M
+is-hex-spec =
+    tie.close
+    (tie.spec
+    Inv-loop
+    μ-loop
+    returns
+    loop-holds
+    shared-slice-read-is-digit
+    is-digit-requires
+    returns-2
+    add-i
+    loop-less
+    loop-again
+    returns-3)
