@@ -1,5 +1,5 @@
-// Ber: lengths and the reader of data objects (01, "The data objects in a command").
-// Whatever is read from a command data field is read here, so the length rule stands in one place.
+// Ber: lengths and data objects (01, "The data objects in a command").
+// Whatever is read from a command data field is read by these (crate reader carries them over a field), so the length rule stands in one place.
 use rules::Found;
 use rules::Length;
 ghost use mathlib.Core.Path.{_≡_};
@@ -7,7 +7,7 @@ ghost use mathlib.Core.List.{_∷_};
 ghost use Prim.Native.Nat.{_+_, _≤_, _<_};
 ghost use lib.ListN.{length};
 ghost use Rattle.rules.specs.Bytes.{splice};
-ghost use Rattle.rules.specs.Ber.{lengthBytes, berLength, announced, lengthValue, lengthAt, objectAt, lastAt};
+ghost use Rattle.rules.specs.Ber.{lengthBytes, berLength, announced, lengthValue, lengthAt, objectAt};
 
 // ---- lengths
 
@@ -114,19 +114,6 @@ pub fn read_object(s: &[u8], at: usize, tag: u8) -> Found
         return Found::Missing;
     }
     Found::Value { from: next, len }
-}
-
-// "And no more": the object ends where the field ends.
-pub fn read_last(s: &[u8], at: usize, tag: u8) -> Found
-    ensures { λ r. ⌜ r ≡ lastAt (now (s .entry)) at tag ⌝ }
-{
-    let Found::Value { from, len } = read_object(s, at, tag) else {
-        return Found::Missing;
-    };
-    if from + len != s.len() {
-        return Found::Missing;
-    }
-    Found::Value { from, len }
 }
 
 pub fn write_head(dst: &mut [u8], at: usize, tag: u8, n: usize) -> usize

@@ -6,6 +6,7 @@ ghost use mathlib.Core.Path.{_≡_};
 ghost use Prim.Native.Nat.{_+_, _≤_};
 ghost use lib.ListN.{length};
 ghost use Rattle.rules.specs.Ber.{lastAt};
+ghost use Rattle.reader.specs.Read.{behindFirst};
 ghost use Rattle.rules.specs.Keys.{challengeIn, replyIn, adminForm, dataTag, dataOk, dataIn, keyForm};
 
 // 81 empty, or 82 and eight bytes, and no more.
@@ -24,7 +25,7 @@ pub fn admin_form(t: &[u8]) -> Admin
 fn challenge_form(t: &[u8]) -> Admin
     ensures { λ r. ⌜ r ≡ challengeIn (lastAt (now (t .entry)) 0 0x81) ⌝ }
 {
-    let Found::Value { from: _, len } = ber::read_last(t, 0, 0x81) else {
+    let Found::Value { from: _, len } = reader::only(t, 0x81) else {
         return Admin::NoForm;
     };
     if len == 0 {
@@ -36,7 +37,7 @@ fn challenge_form(t: &[u8]) -> Admin
 fn reply_form(t: &[u8]) -> Admin
     ensures { λ r. ⌜ r ≡ replyIn (lastAt (now (t .entry)) 0 0x82) ⌝ }
 {
-    let Found::Value { from, len } = ber::read_last(t, 0, 0x82) else {
+    let Found::Value { from, len } = reader::only(t, 0x82) else {
         return Admin::NoForm;
     };
     if len == 8 {
@@ -79,19 +80,20 @@ fn data_ok(key: u8, alg: u8, t: &[u8], from: usize, n: usize) -> bool
 pub fn key_form(key: u8, alg: u8, t: &[u8]) -> Found
     ensures { λ r. ⌜ r ≡ keyForm key alg (now (t .entry)) ⌝ }
 {
-    let Found::Value { from, len } = ber::read_object(t, 0, 0x82) else {
+    let Found::Value { from: _, len } = reader::first(t, 0x82) else {
         return Found::Missing;
     };
     if len != 0 {
         return Found::Missing;
     }
-    data_form(key, alg, t, from)
+    data_form(key, alg, t)
 }
 
-fn data_form(key: u8, alg: u8, t: &[u8], at: usize) -> Found
-    ensures { λ r. ⌜ r ≡ dataIn key alg (now (t .entry)) (lastAt (now (t .entry)) at (dataTag key alg)) ⌝ }
+// The data behind 82.
+fn data_form(key: u8, alg: u8, t: &[u8]) -> Found
+    ensures { λ r. ⌜ r ≡ dataIn key alg (now (t .entry)) (lastAt (now (t .entry)) (behindFirst (now (t .entry)) 0x82) (dataTag key alg)) ⌝ }
 {
-    let Found::Value { from, len } = ber::read_last(t, at, data_tag(key, alg)) else {
+    let Found::Value { from, len } = reader::last(t, 0x82, data_tag(key, alg)) else {
         return Found::Missing;
     };
     if !data_ok(key, alg, t, from, len) {

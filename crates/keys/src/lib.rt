@@ -164,7 +164,7 @@ fn whole(ch: Challenge, s: Session, resp: &mut [u8], h: Header, d: &[u8]) -> Rep
     requires { ⌜ 258 ≤ length (now resp) ⌝ }
     ensures { λ r. ⌜ ((m w : List ℕ) → outcome r m w (now (resp .exit)) ≡ (delivered (now (resp .entry)) (authWhole ch h (state m w s) (now (d .entry)))) .outcome) ⌝ }
 {
-    let Found::Value { from, len } = ber::read_last(d, 0, 0x7C) else {
+    let Found::Value { from, len } = reader::only(d, 0x7C) else {
         return held::say(s, resp, 0x6A80);
     };
     auth_in(ch, s, resp, h, octets::part(d, from, len))

@@ -20,7 +20,7 @@ ghost use Rattle.rules.specs.Calls.{outcome, delivered};
 fn asked_in(d: &[u8]) -> Asked
     ensures { λ r. ⌜ r ≡ askedIn (now (d .entry)) ⌝ }
 {
-    let Found::Value { from, len } = ber::read_last(d, 0, 0x5C) else {
+    let Found::Value { from, len } = reader::only(d, 0x5C) else {
         return Asked::NoTag;
     };
     if len == 3 {

@@ -15,7 +15,6 @@ ghost use lib.ListN.{length, take};
 ghost use Rattle.rules.specs.declared.Answer.the-variants.{Response};
 ghost use Rattle.rules.specs.declared.Session.{Session};
 ghost use Rattle.rules.specs.Bytes.{splice, zeros, word};
-ghost use Rattle.rules.specs.Ber.{lastAt};
 ghost use Rattle.rules.specs.Session.{State, state, chainLength, heldLength};
 ghost use Rattle.rules.specs.Objects.{putIn, putTagged, putForm, putWhole, putEach, putPiece, putData};
 ghost use Rattle.rules.specs.Calls.{outcome, reply, delivered};
@@ -23,10 +22,10 @@ ghost use Rattle.rules.specs.Calls.{outcome, reply, delivered};
 // ---- the form
 
 // The value of the last object is what the slot takes.
-fn put_last(d: &[u8], at: usize, tag: u8, slot: usize) -> Put
-    ensures { λ r. ⌜ r ≡ putIn slot (lastAt (now (d .entry)) at tag) ⌝ }
+fn put_in(slot: usize, f: Found) -> Put
+    ensures { λ r. ⌜ r ≡ putIn slot f ⌝ }
 {
-    let Found::Value { from, len } = ber::read_last(d, at, tag) else {
+    let Found::Value { from, len } = f else {
         return Put::NoObject;
     };
     Put::Object { slot, from, len }
@@ -40,20 +39,16 @@ fn put_form(d: &[u8]) -> Put
         return Put::NoObject;
     }
     if d[0] == 0x7E {
-        return put_last(d, 0, 0x7E, 11);
+        return put_in(11, reader::only(d, 0x7E));
     }
-    let Found::Value { from, len } = ber::read_object(d, 0, 0x5C) else {
+    let Found::Value { from, len } = reader::first(d, 0x5C) else {
         return Put::NoObject;
     };
     if len != 3 {
         return Put::NoObject;
     }
-    put_last(
-        d,
-        from + len,
-        0x53,
-        table::slot_named(octets::be24(d, from)),
-    )
+    let slot = table::slot_named(octets::be24(d, from));
+    put_in(slot, reader::last(d, 0x5C, 0x53))
 }
 
 // ---- the whole

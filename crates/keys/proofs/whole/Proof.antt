@@ -10,8 +10,8 @@ use borrow.Author.Needs.{needs}
 use Rattle.keys.proofs.whole.Statement.{statement}
 use Rattle.keys.proofs.whole.Tie as tie
 
-read-last-requires : tie.Need-read-last-requires
-read-last-requires c κs = search needs
+only-requires : tie.Need-only-requires
+only-requires c κs = search needs
 
 enum-known-from : tie.Need-enum-known-from
 enum-known-from c = search needs
@@ -30,12 +30,12 @@ returns c = λ m w.
     let a = c .before .before .before .before .before .before .before .before .before .args in
     c .before .before .say .ensures m w
     ∙ delivers (a .resp .now) (whole-none (a .ch) (a .h) (state m w (a .s)) (a .d .now)
-    (sym (c .before .before .before .before .before .before .read-last .ensures) ∙ c .before .before .before .before .enum-told .given .1))
+    (sym (c .before .before .before .before .before .before .only .ensures) ∙ c .before .before .before .before .enum-told .given .1))
 
 part-requires : tie.Need-part-requires
 part-requires c κs =
     let q = last-inside (c .before .before .before .before .before .before .before .args .d .now) 0 _ _ 0x7C
-    (sym (c .before .before .before .before .read-last .ensures) ∙ c .before .before .from .given .1) in
+    (sym (c .before .before .before .before .only .ensures) ∙ c .before .before .from .given .1) in
     omega (arith, q .1)
 
 auth-in-requires : tie.Need-auth-in-requires
@@ -49,14 +49,14 @@ returns-2 c = λ m w.
     let a = c .before .before .before .before .before .before .before .before .before .before .before .args in
     c .before .before .auth-in .ensures m w
     ∙ delivers (a .resp .now) (whole-some (a .ch) (a .h) (state m w (a .s)) (a .d .now) _ _ _
-    (sym (c .before .before .before .before .before .before .before .before .read-last .ensures)
+    (sym (c .before .before .before .before .before .before .before .before .only .ensures)
     ∙ c .before .before .before .before .before .before .from .given .1) (c .before .before .before .part .ensures))
 
 pub whole-spec : {M : Type 1} → statement M
 whole-spec =
     tie.close
     (tie.spec
-    read-last-requires
+    only-requires
     enum-known-from
     enum-told
     say-requires
