@@ -73,17 +73,17 @@ pub fn select(s: Session, work: &mut [u8], resp: &mut [u8], h: Header, field: &[
     ensures { λ r. ⌜ ((m : List ℕ) → outcome r m (now (work .exit)) (now (resp .exit)) ≡ (delivered (now (resp .entry)) (select (state m (now (work .entry)) s) h (now (field .entry)))) .outcome) ⌝ }
 {
     if h.p1 != 0x04 {
-        return held::say(s, resp, 0x6A86);
+        return sending::say(s, resp, 0x6A86);
     }
     if h.p2 != 0x00 {
-        return held::say(s, resp, 0x6A86);
+        return sending::say(s, resp, 0x6A86);
     }
     if !ours(field) {
-        return held::say(s, resp, 0x6A82);
+        return sending::say(s, resp, 0x6A82);
     }
     let le = h.le;
     let template = TEMPLATE;
-    held::send(s, work, resp, le, &template, &field[..0])
+    sending::send(s, work, resp, le, &template, &field[..0])
 }
 
 // ---- GET RESPONSE
@@ -94,18 +94,18 @@ pub fn get_response(s: Session, work: &mut [u8], resp: &mut [u8], h: Header, fie
     ensures { λ r. ⌜ ((m : List ℕ) → outcome r m (now (work .exit)) (now (resp .exit)) ≡ (delivered (now (resp .entry)) (getResponse (state m (now (work .entry)) s) h (now (field .entry)))) .outcome) ⌝ }
 {
     if h.p1 != 0x00 {
-        return held::drop_say(s, work, resp, 0x6A86);
+        return sending::drop_say(s, work, resp, 0x6A86);
     }
     if h.p2 != 0x00 {
-        return held::drop_say(s, work, resp, 0x6A86);
+        return sending::drop_say(s, work, resp, 0x6A86);
     }
     if field.len() != 0 {
-        return held::drop_say(s, work, resp, 0x6700);
+        return sending::drop_say(s, work, resp, 0x6700);
     }
     let rest = s.rest;
     let Rest::Left { whole, fetched } = rest else {
-        return held::drop_say(s, work, resp, 0x6985);
+        return sending::drop_say(s, work, resp, 0x6985);
     };
     let le = h.le;
-    held::fetch(s, work, resp, le, whole, fetched)
+    sending::fetch(s, work, resp, le, whole, fetched)
 }

@@ -1,7 +1,7 @@
 // Attempt: what VERIFY, CHANGE REFERENCE DATA and RESET RETRY COUNTER share. The tests before a value is compared, and the
 // comparison, for which a try is charged first: it comes back only after the value was found equal.
-use steps::PinTries;
-use steps::PukTries;
+use tries::PinTries;
+use tries::PukTries;
 ghost use mathlib.Core.Path.{_≡_};
 ghost use mathlib.Core.Bool.{Bool};
 ghost use Prim.Native.Nat.{_+_};
@@ -30,8 +30,8 @@ fn formed(f: Form, d: &[u8]) -> bool
     ensures { λ r. ⌜ r ≡ formOf f (now (d .entry)) ⌝ }
 {
     match f {
-        Form::OfPin => return reference::pin_form(d),
-        Form::OfPuk => return reference::puk_form(d),
+        Form::OfPin => return pinform::pin_form(d),
+        Form::OfPuk => return pinform::puk_form(d),
     }
 }
 
@@ -68,8 +68,8 @@ pub fn try_pin(store: &mut [u8], t: PinTries, d: &[u8]) -> Tried
     requires { ⌜ (length (now store) ≡ 33400) × (t .0 ≡ (referenceAt (now store) pinAt) .left) × (length (now d) ≡ 8) ⌝ }
     ensures { λ r. ⌜ ((b : Bool) → now (store .exit) ≡ refsOnto (now (store .entry)) (stepped (refsIn (now (store .entry)) b) (charge thePin))) × (r ≡ triedOf (referenceAt (now (store .entry)) pinAt) (now (d .entry))) ⌝ }
 {
-    let pin_left = steps::charge_pin(store, t);
-    if steps::pin_is(store, d) {
+    let pin_left = tries::charge_pin(store, t);
+    if values::pin_is(store, d) {
         return Tried::Equal;
     }
     Tried::Unequal(tries_word(pin_left.0))
@@ -79,8 +79,8 @@ pub fn try_puk(store: &mut [u8], t: PukTries, d: &[u8]) -> Tried
     requires { ⌜ (length (now store) ≡ 33400) × (t .0 ≡ (referenceAt (now store) pukAt) .left) × (length (now d) ≡ 8) ⌝ }
     ensures { λ r. ⌜ ((b : Bool) → now (store .exit) ≡ refsOnto (now (store .entry)) (stepped (refsIn (now (store .entry)) b) (charge thePuk))) × (r ≡ triedOf (referenceAt (now (store .entry)) pukAt) (now (d .entry))) ⌝ }
 {
-    let puk_left = steps::charge_puk(store, t);
-    if steps::puk_is(store, d) {
+    let puk_left = tries::charge_puk(store, t);
+    if values::puk_is(store, d) {
         return Tried::Equal;
     }
     Tried::Unequal(tries_word(puk_left.0))

@@ -39,7 +39,7 @@ use Rattle.rules.proofs.Tests.{on, off, either, or-left, or-right, or-none, by-
 use Rattle.rules.proofs.Lists.{part-head, length-splice}
 use Rattle.rules.proofs.Lengths.{counted, form-length, form-read, Read, read-is}
 use Rattle.octets.proofs.Laws.{splice-next}
-use Rattle.octets.proofs.Numbers.{number16}
+use Rattle.numbers.proofs.Numbers.{number16}
 
 -- ---- lengths
 
@@ -104,7 +104,7 @@ pub record Inside (s : List ℕ) (at from n : ℕ) : Type 0 where
   pub after : at < from
   pub fits : from + n ≤ length s
 
-missing : {A : Type 0} {from n : ℕ} → Missing ≡ Value from n → A
+pub missing : {A : Type 0} {from n : ℕ} → Missing ≡ Value from n → A
 missing q = let z : _≡_ {A = ℕ} 0 1 = cc in absurd (omega arith)
 
 module _ (s : List ℕ) (at from n : ℕ) where

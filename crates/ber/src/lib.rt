@@ -51,11 +51,11 @@ fn length_value(s: &[u8], at: usize, k: usize) -> usize
     if k == 2 {
         return s[at + 1] as usize;
     }
-    octets::be16(s, at + 1)
+    numbers::be16(s, at + 1)
 }
 
 // 01: only the shortest form is taken.
-pub fn read_length(s: &[u8], at: usize) -> Length
+fn read_length(s: &[u8], at: usize) -> Length
     ensures { λ r. ⌜ r ≡ lengthAt (now (s .entry)) at ⌝ }
 {
     if s.len() <= at {
@@ -76,7 +76,7 @@ pub fn read_length(s: &[u8], at: usize) -> Length
 }
 
 // 01: only the shortest form is written.
-pub fn write_length(dst: &mut [u8], at: usize, n: usize) -> usize
+fn write_length(dst: &mut [u8], at: usize, n: usize) -> usize
     requires { ⌜ n < 65536 ⌝ }
     requires { ⌜ at + 3 ≤ length (now dst) ⌝ }
     ensures { λ r. ⌜ (r ≡ at + lengthBytes n) × (now (dst .exit) ≡ splice (now (dst .entry)) at (berLength n)) ⌝ }

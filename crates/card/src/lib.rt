@@ -23,7 +23,7 @@ pub fn power_on(store: &[u8], work: &mut [u8], contactless: bool) -> Reply
     ensures { λ r. ⌜ ((ss : Session) → outcome r (now (store .entry)) (now (work .exit)) [] ≡ (call (state (now (store .entry)) (now (work .entry)) ss) (powers contactless)) .outcome) ⌝ }
 {
     let s = session::cleared(contactless);
-    match permit::power_on(store::well_formed(store), work.len()) {
+    match permit::power_on(wellformed::well_formed(store), work.len()) {
         Permit::Denied(x) => Reply {
             answer: Answer::Refused(x),
             session: s,
@@ -48,7 +48,7 @@ fn obey(session: Session, store: &mut [u8], work: &mut [u8], resp: &mut [u8], cm
     let challenge = session.challenge;
     let s = session::with_challenge(session, Challenge::Unasked);
     match apdu::check(session.contactless, cmd) {
-        Checked::Failed(sw) => held::drop_say(s, work, resp, sw),
+        Checked::Failed(sw) => sending::drop_say(s, work, resp, sw),
         Checked::Passed(h) => {
             commands::rule(challenge, s, store, work, resp, h, apdu::field(cmd, h))
         }
@@ -64,7 +64,12 @@ pub fn command(
 ) -> Reply
     ensures { λ r. ⌜ outcome r (now (store .exit)) (now (work .exit)) (now (resp .exit)) ≡ (call (state (now (store .entry)) (now (work .entry)) session) (sends (now (resp .entry)) (now (cmd .entry)))) .outcome ⌝ }
 {
-    match permit::command(store::well_formed(store), session, resp.len(), work.len()) {
+    match permit::command(
+        wellformed::well_formed(store),
+        session,
+        resp.len(),
+        work.len(),
+    ) {
         Permit::Denied(x) => Reply {
             answer: Answer::Refused(x),
             session,
@@ -87,7 +92,7 @@ pub fn job_result(
     ensures { λ r. ⌜ outcome r (now (store .entry)) (now (work .exit)) (now (resp .exit)) ≡ (call (state (now (store .entry)) (now (work .entry)) session) (finishes (now (resp .entry)) failed (now (result .entry)))) .outcome ⌝ }
 {
     match permit::job_result(
-        store::well_formed(store),
+        wellformed::well_formed(store),
         session,
         resp.len(),
         work.len(),

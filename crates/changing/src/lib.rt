@@ -18,7 +18,7 @@ fn change_pin(store: &mut [u8], given: bool, field: &[u8]) -> Judged
     requires { ⌜ length (now store) ≡ 33400 ⌝ }
     ensures { λ r. ⌜ judgement r (now (store .exit)) ≡ judgedOn (now (store .entry)) given (changeOf (refsIn (now (store .entry)) given) thePin pinForm true false (now (field .entry))) ⌝ }
 {
-    let tries = steps::pin_left(store);
+    let tries = tries::pin_left(store);
     let word = attempt::halves(tries.0, Form::OfPin, Form::OfPin, field);
     if word != 0x9000 {
         return Judged { sw: word, given };
@@ -26,8 +26,8 @@ fn change_pin(store: &mut [u8], given: bool, field: &[u8]) -> Judged
     if let Tried::Unequal(sw) = attempt::try_pin(store, tries, octets::part(field, 0, 8)) {
         return Judged { sw, given: false };
     }
-    steps::new_pin(store, octets::part(field, 8, 8));
-    steps::restore_pin(store);
+    values::new_pin(store, octets::part(field, 8, 8));
+    tries::restore_pin(store);
     Judged {
         sw: 0x9000,
         given: true,
@@ -39,7 +39,7 @@ fn change_puk(store: &mut [u8], given: bool, field: &[u8]) -> Judged
     requires { ⌜ length (now store) ≡ 33400 ⌝ }
     ensures { λ r. ⌜ judgement r (now (store .exit)) ≡ judgedOn (now (store .entry)) given (changeOf (refsIn (now (store .entry)) given) thePuk pukForm given given (now (field .entry))) ⌝ }
 {
-    let tries = steps::puk_left(store);
+    let tries = tries::puk_left(store);
     let word = attempt::halves(tries.0, Form::OfPuk, Form::OfPuk, field);
     if word != 0x9000 {
         return Judged { sw: word, given };
@@ -47,8 +47,8 @@ fn change_puk(store: &mut [u8], given: bool, field: &[u8]) -> Judged
     if let Tried::Unequal(sw) = attempt::try_puk(store, tries, octets::part(field, 0, 8)) {
         return Judged { sw, given };
     }
-    steps::new_puk(store, octets::part(field, 8, 8));
-    steps::restore_puk(store);
+    values::new_puk(store, octets::part(field, 8, 8));
+    tries::restore_puk(store);
     Judged { sw: 0x9000, given }
 }
 
@@ -75,7 +75,7 @@ fn reset_given(store: &mut [u8], given: bool, field: &[u8]) -> Judged
     requires { ⌜ length (now store) ≡ 33400 ⌝ }
     ensures { λ r. ⌜ judgement r (now (store .exit)) ≡ judgedOn (now (store .entry)) given (resetGiven (refsIn (now (store .entry)) given) (now (field .entry))) ⌝ }
 {
-    let tries = steps::puk_left(store);
+    let tries = tries::puk_left(store);
     let word = attempt::halves(tries.0, Form::OfPuk, Form::OfPin, field);
     if word != 0x9000 {
         return Judged { sw: word, given };
@@ -83,9 +83,9 @@ fn reset_given(store: &mut [u8], given: bool, field: &[u8]) -> Judged
     if let Tried::Unequal(sw) = attempt::try_puk(store, tries, octets::part(field, 0, 8)) {
         return Judged { sw, given: false };
     }
-    steps::new_pin(store, octets::part(field, 8, 8));
-    steps::restore_pin(store);
-    steps::restore_puk(store);
+    values::new_pin(store, octets::part(field, 8, 8));
+    tries::restore_pin(store);
+    tries::restore_puk(store);
     Judged { sw: 0x9000, given }
 }
 

@@ -19,8 +19,7 @@ use Rattle.rules.specs.Calls.{Outcome, outcome, sends, call}
 use Rattle.rules.specs.Claims.Starred.{hex, fixed}
 use Rattle.rules.proofs.Tests.{by-order}
 use Rattle.rules.proofs.Lists.{join-start}
-use Rattle.octets.proofs.Laws.{length-zeros, splice-next}
-use Rattle.reference.proofs.Laws.{whole}
+use Rattle.octets.proofs.Laws.{length-zeros, splice-next, whole}
 use Rattle.text.specs.Text.{hexOf}
 use Rattle.text.proofs.Laws.{length-hex}
 use Rattle.hexlines.specs.HexLines.{closed, turn}

@@ -33,7 +33,7 @@ fn give(s: Session, work: &mut [u8], resp: &mut [u8], le: usize, tag: u8, v: &[u
 {
     let mut head = [0u8; 8];
     let n = heads(&mut head, tag, v.len());
-    held::send(s, work, resp, le, &head[..n], v)
+    sending::send(s, work, resp, le, &head[..n], v)
 }
 
 // ---- results
@@ -43,7 +43,7 @@ fn challenged(s: Session, work: &mut [u8], resp: &mut [u8], le: usize, result: &
     requires { ⌜ (le ≤ 256) × (258 ≤ length (now resp)) × (length (now result) ≡ 16) × (length (now work) ≡ 13321) ⌝ }
     ensures { λ r. ⌜ ((m : List ℕ) → outcome r m (now (work .exit)) (now (resp .exit)) ≡ (delivered (now (resp .entry)) (challenged (state m (now (work .entry)) s) le (now (result .entry)))) .outcome) ⌝ }
 {
-    let reply = octets::be64(result, 8);
+    let reply = numbers::be64(result, 8);
     let t = session::with_challenge(s, Challenge::Awaits { reply });
     give(t, work, resp, le, 0x81, octets::part(result, 0, 8))
 }
@@ -55,11 +55,11 @@ pub fn finish(s: Session, work: &mut [u8], resp: &mut [u8], failed: bool, result
 {
     let job = s.job;
     let Job::Running { key, alg: _, le } = job else {
-        return held::say(s, resp, 0x6F00);
+        return sending::say(s, resp, 0x6F00);
     };
     let t = session::with_job(s, Job::Idle);
     if failed {
-        return held::say(t, resp, 0x6F00);
+        return sending::say(t, resp, 0x6F00);
     }
     if key == 0x9B {
         return challenged(t, work, resp, le, result);

@@ -24,7 +24,7 @@ fn asked_in(d: &[u8]) -> Asked
         return Asked::NoTag;
     };
     if len == 3 {
-        return Asked::Slot(table::slot_named(octets::be24(d, from)));
+        return Asked::Slot(table::slot_named(numbers::be24(d, from)));
     }
     if len != 1 {
         return Asked::NoTag;
@@ -59,11 +59,11 @@ fn give_object(
     ensures { λ r. ⌜ ((m : List ℕ) → outcome r m (now (work .exit)) (now (resp .exit)) ≡ (delivered (now (resp .entry)) (giveObject (state m (now (work .entry)) s) le slot (now (v .entry)))) .outcome) ⌝ }
 {
     if v.len() == 0 {
-        return held::say(s, resp, 0x6A82);
+        return sending::say(s, resp, 0x6A82);
     }
     let mut head = [0u8; 4];
     let n = ber::write_head(&mut head, 0, object_tag(slot), v.len());
-    held::send(s, work, resp, le, &head[..n], v)
+    sending::send(s, work, resp, le, &head[..n], v)
 }
 
 // Tag not in the table: 6A82; reading not allowed now: 6982, whether or not there is an object.
@@ -79,10 +79,10 @@ fn get_slot(
     ensures { λ r. ⌜ outcome r (now (store .entry)) (now (work .exit)) (now (resp .exit)) ≡ (delivered (now (resp .entry)) (getSlot (state (now (store .entry)) (now (work .entry)) s) le slot)) .outcome ⌝ }
 {
     if 12 <= slot {
-        return held::say(s, resp, 0x6A82);
+        return sending::say(s, resp, 0x6A82);
     }
     if !table::readable(s, slot) {
-        return held::say(s, resp, 0x6982);
+        return sending::say(s, resp, 0x6982);
     }
     give_object(s, work, resp, le, slot, store::object(store, slot))
 }
@@ -99,13 +99,13 @@ pub fn get_data(
     ensures { λ r. ⌜ outcome r (now (store .entry)) (now (work .exit)) (now (resp .exit)) ≡ (delivered (now (resp .entry)) (getData (state (now (store .entry)) (now (work .entry)) s) h (now (field .entry)))) .outcome ⌝ }
 {
     if h.p1 != 0x3F {
-        return held::say(s, resp, 0x6A86);
+        return sending::say(s, resp, 0x6A86);
     }
     if h.p2 != 0xFF {
-        return held::say(s, resp, 0x6A86);
+        return sending::say(s, resp, 0x6A86);
     }
     let Asked::Slot(slot) = asked_in(field) else {
-        return held::say(s, resp, 0x6A80);
+        return sending::say(s, resp, 0x6A80);
     };
     let le = h.le;
     get_slot(s, store, work, resp, le, slot)

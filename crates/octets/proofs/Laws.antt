@@ -6,11 +6,13 @@
 --   splice-one             one byte stored
 --   splice-next            two stretches replaced, the second right behind the first
 --   splice-cons            a byte, and a stretch right behind it
+--   whole                  a row replaced whole
 --   part-add               a part is its first k bytes and the j bytes behind them
 --   part-first part-rest   these, taken from the part itself
 --   same-on same-off       two rows compared from a place on: the bytes there are equal, or not
 --   same-end               no bytes are left
 --   other-length           rows of two lengths are not the same
+--   all-on all-off all-end a row tested from a place on: the element there passes, or not, or none is left
 --
 -- Assumes nothing.
 use mathlib.Core.Path.{_≡_, refl, sym, ap, _∙_}
@@ -24,7 +26,7 @@ use lib.Dec.{eqb}
 use lib.ListN.{length, take, drop, set, getD, length-append, length-take, drop-of-length-le, length-replicate, getD-replicate}
 use lib.Seq.{take-all, take-at, take-add, take-take, take-nil, drop-at, drop-drop, drop-cons, set-split}
 use borrow.Author.Tests.{eq-eqb, ne-eqb}
-use Rattle.rules.specs.Bytes.{sameBytes, part, splice, zeros}
+use Rattle.rules.specs.Bytes.{all, sameBytes, part, splice, zeros}
 use Rattle.rules.proofs.Tests.{and-off-left}
 use Rattle.rules.proofs.Lists.{same-bytes}
 
@@ -83,6 +85,10 @@ pub splice-cons : (s x y v : List ℕ) (at b : ℕ) → at < length s
 splice-cons s x y v at b h p q =
     q ∙ ap (λ (z : List ℕ). splice z (at + 1) v) p ∙ splice-next s (b ∷ []) v at (omega arith)
 
+pub whole : (s v : List ℕ) → length s ≤ length v → splice s 0 v ≡ v
+unfolding splice
+whole s v h = simp (zero-add, drop-of-length-le s h, append-nil)
+
 -- ---- a part taken apart
 
 pub part-add : (s : List ℕ) (a k j : ℕ) → part s a (k + j) ≡ part s a k ++ part s (a + k) j
@@ -123,3 +129,18 @@ other-length a b ne = go (sameBytes a b) refl
     go : (t : Bool) → sameBytes a b ≡ t → sameBytes a b ≡ false
     go true e = absurd (ne (ap length (same-bytes a b e)))
     go false e = e
+
+-- ---- a row tested
+
+module _ (f : ℕ → Bool) (s : List ℕ) (i : ℕ) where
+  all-at : i < length s → all f (drop i s) ≡ (f (getD s i 0) && all f (drop (i + 1) s))
+  all-at h = rw (add-one, drop-cons s i 0 h)
+
+  pub all-on : i < length s → f (getD s i 0) ≡ true → all f (drop i s) ≡ all f (drop (i + 1) s)
+  all-on h e = all-at h ∙ ap (λ (t : Bool). t && all f (drop (i + 1) s)) e
+
+  pub all-off : i < length s → f (getD s i 0) ≡ false → all f (drop i s) ≡ false
+  all-off h e = all-at h ∙ and-off-left _ _ e
+
+  pub all-end : length s ≤ i → all f (drop i s) ≡ true
+  all-end h = rw (drop-of-length-le s h)

@@ -39,7 +39,7 @@ fn judged(s: Session, work: &mut [u8], resp: &mut [u8], j: Judged) -> Reply
 {
     let t = held::drop_held(s, work);
     let given = j.given;
-    held::say(session::with_pin(t, given), resp, j.sw)
+    sending::say(session::with_pin(t, given), resp, j.sw)
 }
 
 // The steps on the store come before any byte of the work area is zeroed.

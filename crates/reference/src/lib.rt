@@ -1,70 +1,9 @@
-// Reference: a PIN or a PUK in its ten bytes, lent of a store; the forms of their values, and the steps made on the ten bytes.
+// Reference: a PIN or a PUK in its ten bytes, lent of a store: what is read of them, and the steps made on them.
 // 01, "What the host lends": limit, tries left, eight value bytes.
 ghost use mathlib.Core.Path.{_≡_};
 ghost use Prim.Native.Nat.{_-_};
 ghost use lib.ListN.{length};
-ghost use Rattle.rules.specs.Bytes.{all};
-ghost use Rattle.rules.specs.Reference.{digit, lastTwo, pinForm, pukForm, referenceOk};
-ghost use Rattle.rules.specs.Reference.{matches, charged, restored, renewed, referenceAt, putReference};
-
-// ---- forms (01, "PIN form")
-
-fn digit(b: u8) -> bool
-    ensures { λ r. ⌜ r ≡ digit b ⌝ }
-{
-    if b < 0x30 {
-        return false;
-    }
-    b <= 0x39
-}
-
-fn digits(d: &[u8]) -> bool
-    ensures { λ r. ⌜ r ≡ all digit (now (d .entry)) ⌝ }
-{
-    let mut i = 0;
-    while i < d.len() {
-        if !digit(d[i]) {
-            return false;
-        }
-        i += 1;
-    }
-    true
-}
-
-// Each a digit or FF, and after FF only FF.
-fn last_two(a: u8, b: u8) -> bool
-    ensures { λ r. ⌜ r ≡ lastTwo a b ⌝ }
-{
-    if digit(a) {
-        if digit(b) {
-            return true;
-        }
-        return b == 0xFF;
-    }
-    if a != 0xFF {
-        return false;
-    }
-    b == 0xFF
-}
-
-pub fn pin_form(d: &[u8]) -> bool
-    ensures { λ r. ⌜ r ≡ pinForm (now (d .entry)) ⌝ }
-{
-    if d.len() != 8 {
-        return false;
-    }
-    if !digits(&d[..6]) {
-        return false;
-    }
-    last_two(d[6], d[7])
-}
-
-// A PUK is any eight bytes.
-pub fn puk_form(d: &[u8]) -> bool
-    ensures { λ r. ⌜ r ≡ pukForm (now (d .entry)) ⌝ }
-{
-    d.len() == 8
-}
+ghost use Rattle.rules.specs.Reference.{referenceOk, matches, charged, restored, renewed, referenceAt, putReference};
 
 // ---- the ten bytes read
 
@@ -96,7 +35,7 @@ pub fn equals(ten: &[u8], d: &[u8]) -> bool
     requires { ⌜ (length (now ten) ≡ 10) × (length (now d) ≡ 8) ⌝ }
     ensures { λ r. ⌜ r ≡ matches (referenceAt (now (ten .entry)) 0) (now (d .entry)) ⌝ }
 {
-    octets::be64(ten, 2) == octets::be64(d, 0)
+    numbers::be64(ten, 2) == numbers::be64(d, 0)
 }
 
 // ---- steps, each of which writes its own bytes and no other

@@ -107,7 +107,7 @@ pub fn chain_length(c: Chain) -> usize
     }
 }
 
-pub fn whole_length(r: Rest) -> usize
+fn whole_length(r: Rest) -> usize
     ensures { λ n. ⌜ n ≡ wholeLength r ⌝ }
 {
     match r {

@@ -39,7 +39,7 @@ fn verify_asked(store: &[u8], given: bool) -> Judged
     if given {
         return Judged { sw: 0x9000, given };
     }
-    let tries = steps::pin_left(store);
+    let tries = tries::pin_left(store);
     Judged {
         sw: attempt::tries_word(tries.0),
         given,
@@ -50,17 +50,17 @@ fn verify_given(store: &mut [u8], given: bool, field: &[u8]) -> Judged
     requires { ⌜ length (now store) ≡ 33400 ⌝ }
     ensures { λ r. ⌜ judgement r (now (store .exit)) ≡ judgedOn (now (store .entry)) given (verifyGiven (refsIn (now (store .entry)) given) (now (field .entry))) ⌝ }
 {
-    let tries = steps::pin_left(store);
+    let tries = tries::pin_left(store);
     if tries.0 == 0 {
         return Judged { sw: 0x6983, given };
     }
-    if !reference::pin_form(field) {
+    if !pinform::pin_form(field) {
         return Judged { sw: 0x6A80, given };
     }
     if let Tried::Unequal(sw) = attempt::try_pin(store, tries, field) {
         return Judged { sw, given: false };
     }
-    steps::restore_pin(store);
+    tries::restore_pin(store);
     Judged {
         sw: 0x9000,
         given: true,

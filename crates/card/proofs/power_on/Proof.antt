@@ -10,8 +10,7 @@ use Rattle.rules.specs.declared.Session.{Session}
 use Rattle.rules.specs.Session.{state}
 use Rattle.rules.specs.Bytes.{zeros}
 use Rattle.rules.specs.Calls.{outcome, reply, lent, keptSession, poweredOn, granted, powers}
-use Rattle.reference.proofs.Laws.{whole}
-use Rattle.octets.proofs.Laws.{length-zeros}
+use Rattle.octets.proofs.Laws.{whole, length-zeros}
 use Rattle.card.proofs.Laws.{granted-facts, call-denied, call-granted}
 use borrow.Author.Needs.{needs}
 use Rattle.card.proofs.power_on.Statement.{statement}

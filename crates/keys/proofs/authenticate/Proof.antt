@@ -2,10 +2,10 @@
 -- Assumes nothing.
 use mathlib.Core.Path.{ap, _∙_}
 use native.Mathlib.Omega.{arith}
-use Rattle.rules.specs.Session.{State, state}
+use Rattle.rules.specs.Session.{State}
 use Rattle.rules.specs.Keys.{authPiece, authenticate}
-use Rattle.rules.specs.Calls.{delivered, outcome}
-use Rattle.keys.proofs.Laws.{based-held}
+use Rattle.rules.specs.Calls.{delivered}
+use Rattle.held.proofs.Laws.{based-held}
 use borrow.Author.Needs.{needs}
 use Rattle.keys.proofs.authenticate.Statement.{statement}
 use Rattle.keys.proofs.authenticate.Tie as tie
@@ -19,7 +19,7 @@ piece-requires c κs =
     let a = i .args in
     omega (
       arith,
-      based-held (state (a .store .now) (a .work .now) (a .s)) _ (a .h) (c .before .before .before .before .based .ensures (a .store .now)) (i .pre .2),
+      based-held (a .store .now) (a .work .now) _ (a .s) _ (a .h) (c .before .before .before .before .based .ensures (a .store .now)) (i .pre .2),
       i .pre,
     )
 

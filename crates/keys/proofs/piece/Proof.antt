@@ -5,8 +5,8 @@ use native.Mathlib.Omega.{arith}
 use Rattle.rules.specs.Session.{State, state}
 use Rattle.rules.specs.Command.{says}
 use Rattle.rules.specs.Calls.{delivered, outcome}
-use Rattle.held.proofs.Laws.{delivers}
-use Rattle.keys.proofs.Laws.{piece-total, piece-refused, piece-more, piece-last}
+use Rattle.sending.proofs.Laws.{delivers}
+use Rattle.keys.proofs.Laws.{piece-total, piece-refused, piece-held, piece-whole}
 use borrow.Author.Needs.{needs}
 use Rattle.keys.proofs.piece.Statement.{statement}
 use Rattle.keys.proofs.piece.Tie as tie
@@ -64,7 +64,7 @@ returns-2 c =
     let e = c .before .before .before .before .before .before .before .before .before .before .before .each .ensures (a .work .now) in
     c .before .before .say .ensures (a .store .now) (c .before .before .before .before .before .before .hold-piece .last .1 .0)
     ∙ ap (λ (x : State). (delivered (a .resp .now) (says x 0x9000)) .outcome) (c .before .before .before .before .before .before .hold-piece .ensures (a .store .now))
-    ∙ delivers (a .resp .now) (piece-more (a .ch) st (a .h) (a .field .now) _ _ q e
+    ∙ delivers (a .resp .now) (piece-held (a .ch) st (a .h) (a .field .now) _ _ q e
     (c .before .before .before .before .before .before .before .before .before .before .if1 .left)
     (c .before .before .before .before .before .before .before .before .if2 .taken))
 
@@ -90,7 +90,7 @@ returns-3 c =
     let q = c .before .before .before .before .before .before .before .before .before .before .before .chain-length .ensures in
     let e = c .before .before .before .before .before .before .before .before .before .before .each .ensures (a .work .now) in
     c .before .before .before .before .last .ensures (a .store .now)
-    ∙ delivers (a .resp .now) (piece-last (a .ch) st (a .h) (a .field .now) _ _ q e
+    ∙ delivers (a .resp .now) (piece-whole (a .ch) st (a .h) (a .field .now) _ _ q e
     (c .before .before .before .before .before .before .before .before .before .if1 .left) (c .before .before .before .before .before .before .before .if2 .left))
 
 pub piece-spec : {M : Type 1} → statement M

@@ -9,7 +9,7 @@ use Rattle.rules.specs.Ber.{tlv, berLength}
 use Rattle.rules.specs.Session.{state}
 use Rattle.rules.specs.Held.{send}
 use Rattle.rules.specs.Calls.{delivered, outcome}
-use Rattle.held.proofs.Laws.{delivers}
+use Rattle.sending.proofs.Laws.{delivers}
 use Rattle.ber.proofs.Laws.{head-written}
 use Rattle.objects.proofs.Laws.{give-none, give-some}
 use mathlib.Core.List.{_∷_}

@@ -11,8 +11,9 @@ use Rattle.rules.specs.Session.{State, state, chainLength}
 use Rattle.rules.specs.Command.{says}
 use Rattle.rules.specs.Objects.{putWhole, putEach}
 use Rattle.rules.specs.Calls.{delivered}
-use Rattle.held.proofs.Laws.{delivers}
-use Rattle.putting.proofs.Laws.{said, each-room, put-bad, put-more, put-one, put-end}
+use Rattle.sending.proofs.Laws.{delivers}
+use Rattle.storing.proofs.Laws.{said}
+use Rattle.putting.proofs.Laws.{each-room, put-bad, put-more, put-one, put-end}
 use borrow.Author.Needs.{needs}
 use Rattle.putting.proofs.put_piece.Statement.{statement}
 use Rattle.putting.proofs.put_piece.Tie as tie

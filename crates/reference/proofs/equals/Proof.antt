@@ -7,8 +7,8 @@ use denote.Ref.{now}
 use lib.Seq.{take-all}
 use Rattle.rules.specs.Bytes.{sameBytes, part}
 use Rattle.rules.specs.Reference.{matches, referenceAt}
-use Rattle.octets.proofs.Numbers.{number64}
-use Rattle.reference.proofs.Laws.{number-same}
+use Rattle.numbers.proofs.Numbers.{number64}
+use Rattle.numbers.proofs.Numbers.{number-same}
 use Rattle.reference.proofs.equals.Statement.{statement}
 use Rattle.reference.proofs.equals.Tie as tie
 

@@ -1,0 +1,114 @@
+// When a store is well formed (01, "What the host lends"): a function for each test of the book.
+ghost use mathlib.Core.Path.{_≡_};
+ghost use mathlib.Core.Bool.{true};
+ghost use Prim.Native.Nat.{_+_, _≤_, _<_};
+ghost use lib.ListN.{length};
+ghost use Rattle.rules.specs.Bytes.{all, allBelow, sameBytes, part};
+ghost use Rattle.rules.specs.Reference.{pinForm, referenceOk, referenceAt};
+ghost use Rattle.rules.specs.Store.{capacity};
+ghost use Rattle.rules.specs.Store.{mark, algorithmOk, slotOk, wellFormed};
+
+// The mark OPC, version 1, three zero bytes.
+const MARK: u64 = 0x4F50_4300_0100_0000;
+
+fn marked(store: &[u8]) -> bool
+    requires { ⌜ length (now store) ≡ 33400 ⌝ }
+    ensures { λ r. ⌜ r ≡ sameBytes (part (now (store .entry)) 0 8) mark ⌝ }
+{
+    numbers::be64(store, 0) == MARK
+}
+
+fn reference_ok(store: &[u8], at: usize) -> bool
+    requires { ⌜ at + 10 ≤ length (now store) ⌝ }
+    ensures { λ r. ⌜ r ≡ referenceOk (referenceAt (now (store .entry)) at) ⌝ }
+{
+    let end = at + 10;
+    reference::record_ok(&store[at..end])
+}
+
+// The stored PIN has PIN form.
+fn pin_ok(store: &[u8]) -> bool
+    requires { ⌜ length (now store) ≡ 33400 ⌝ }
+    ensures { λ r. ⌜ r ≡ pinForm (part (now (store .entry)) 10 8) ⌝ }
+{
+    pinform::pin_form(&store[10..18])
+}
+
+// 00 absent, 07 RSA 2048, 11 P-256.
+fn algorithm_ok(a: u8) -> bool
+    ensures { λ r. ⌜ r ≡ algorithmOk a ⌝ }
+{
+    if a == 0x00 {
+        return true;
+    }
+    if a == 0x07 {
+        return true;
+    }
+    a == 0x11
+}
+
+fn algorithms_ok(keys: &[u8]) -> bool
+    ensures { λ r. ⌜ r ≡ all algorithmOk (now (keys .entry)) ⌝ }
+{
+    let mut i = 0;
+    while i < keys.len() {
+        if !algorithm_ok(keys[i]) {
+            return false;
+        }
+        i += 1;
+    }
+    true
+}
+
+fn keys_ok(store: &[u8]) -> bool
+    requires { ⌜ length (now store) ≡ 33400 ⌝ }
+    ensures { λ r. ⌜ r ≡ all algorithmOk (part (now (store .entry)) 28 4) ⌝ }
+{
+    algorithms_ok(&store[28..32])
+}
+
+// No length passes its capacity.
+fn slot_ok(store: &[u8], slot: usize) -> bool
+    requires { ⌜ (length (now store) ≡ 33400) × (slot < 12) ⌝ }
+    ensures { λ r. ⌜ r ≡ slotOk (now (store .entry)) slot ⌝ }
+{
+    numbers::be16(store, table::offset(slot)) <= table::capacity(slot)
+}
+
+fn slots_ok(store: &[u8]) -> bool
+    requires { ⌜ length (now store) ≡ 33400 ⌝ }
+    ensures { λ r. ⌜ r ≡ allBelow (slotOk (now (store .entry))) 12 ⌝ }
+{
+    let mut slot = 0;
+    while slot < 12 {
+        if !slot_ok(store, slot) {
+            return false;
+        }
+        slot += 1;
+    }
+    true
+}
+
+pub fn well_formed(store: &[u8]) -> bool
+    ensures { λ r. ⌜ r ≡ wellFormed (now (store .entry)) ⌝ }
+{
+    if store.len() != 33400 {
+        return false;
+    }
+    if !marked(store) {
+        return false;
+    }
+    if !reference_ok(store, 8) {
+        return false;
+    }
+    if !reference_ok(store, 18) {
+        return false;
+    }
+    if !pin_ok(store) {
+        return false;
+    }
+    if !keys_ok(store) {
+        return false;
+    }
+    slots_ok(store)
+}
