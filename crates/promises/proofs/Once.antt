@@ -1,0 +1,506 @@
+-- Once: no second outcome fits the promise of a public function (01, "Promises that leave no choice").
+--
+-- `F.Post κs a r s` is the promise that the source of the function F makes: of its arguments a, its result r, and what stands behind its references at
+-- the end, s. Two outcomes for the same arguments are the same, by the lemma for all promises of this form (rules, Claims/NoSecond): the same result,
+-- and the same bytes behind each reference that is lent to be written.
+--
+-- `permit` promises for every store that is well formed, or is not, and `storing::put_whole` promises a word by its two bytes: both still leave one.
+-- Assumes nothing.
+use mathlib.Core.Path.{_≡_, refl, sym, ap}
+use mathlib.Core.Bool.{Bool, true, false}
+use mathlib.Core.List.{List, []}
+use Prim.Native.Nat.{ℕ, _<_, _/_, _%_}
+use native.Mathlib.Omega.{arith}
+use lib.ListN.{getD}
+use denote.Ref.{RefT, now}
+use Rattle.rules.specs.declared.Admin.{Admin}
+use Rattle.rules.specs.declared.Checked.{Checked}
+use Rattle.rules.specs.declared.Found.{Found}
+use Rattle.rules.specs.declared.Judged.{Judged}
+use Rattle.rules.specs.declared.Reply.{Reply}
+use Rattle.rules.specs.declared.Session.{Session}
+use Rattle.rules.specs.declared.Chain.the-variants.{Shut}
+use Rattle.rules.specs.declared.Rest.the-variants.{Gone}
+use Rattle.rules.specs.declared.Challenge.the-variants.{Unasked}
+use Rattle.rules.specs.declared.Job.the-variants.{Idle}
+use Rattle.rules.specs.declared.Permit.{Permit}
+use Rattle.rules.specs.Bytes.{zeros, splice, word}
+use Rattle.rules.specs.Book.{book}
+use Rattle.rules.specs.Store.{wellFormed}
+use Rattle.rules.specs.Claims.Starred.{fixed}
+use Rattle.rules.specs.Session.{State, state}
+use Rattle.rules.specs.Pin.{Judgement, judgement}
+use Rattle.rules.specs.Calls.{Outcome, outcome}
+use Rattle.rules.specs.Claims.NoSecond.{Shows}
+use Rattle.rules.proofs.NoSecond.{no-second}
+use Rattle.octets.proofs.Laws.{length-zeros}
+use Rattle.tries.specs.declared.PinTries.{PinTries}
+use Rattle.tries.specs.declared.PukTries.{PukTries}
+use Rattle.attempt.specs.declared.Tried.{Tried}
+use Rattle.octets.proofs.same.Reads as octets-same
+use Rattle.octets.proofs.part.Reads as octets-part
+use Rattle.octets.proofs.put.Reads as octets-put
+use Rattle.octets.proofs.zero.Reads as octets-zero
+use Rattle.octets.proofs.put_byte.Reads as octets-put-byte
+use Rattle.octets.proofs.put_word.Reads as octets-put-word
+use Rattle.numbers.proofs.be16.Reads as numbers-be16
+use Rattle.numbers.proofs.be24.Reads as numbers-be24
+use Rattle.numbers.proofs.be64.Reads as numbers-be64
+use Rattle.ber.proofs.length_bytes.Reads as ber-length-bytes
+use Rattle.ber.proofs.read_object.Reads as ber-read-object
+use Rattle.ber.proofs.write_head.Reads as ber-write-head
+use Rattle.reader.proofs.first.Reads as reader-first
+use Rattle.reader.proofs.only.Reads as reader-only
+use Rattle.reader.proofs.last.Reads as reader-last
+use Rattle.session.proofs.cleared.Reads as session-cleared
+use Rattle.session.proofs.with_pin.Reads as session-with-pin
+use Rattle.session.proofs.with_admin.Reads as session-with-admin
+use Rattle.session.proofs.holding.Reads as session-holding
+use Rattle.session.proofs.with_challenge.Reads as session-with-challenge
+use Rattle.session.proofs.with_job.Reads as session-with-job
+use Rattle.session.proofs.chain_length.Reads as session-chain-length
+use Rattle.session.proofs.held_length.Reads as session-held-length
+use Rattle.session.proofs.running.Reads as session-running
+use Rattle.possible.proofs.possible.Reads as possible-possible
+use Rattle.permit.proofs.power_on.Reads as permit-power-on
+use Rattle.permit.proofs.command.Reads as permit-command
+use Rattle.permit.proofs.job_result.Reads as permit-job-result
+use Rattle.table.proofs.capacity.Reads as table-capacity
+use Rattle.table.proofs.offset.Reads as table-offset
+use Rattle.table.proofs.slot_named.Reads as table-slot-named
+use Rattle.table.proofs.readable.Reads as table-readable
+use Rattle.table.proofs.takes.Reads as table-takes
+use Rattle.pinform.proofs.pin_form.Reads as pinform-pin-form
+use Rattle.pinform.proofs.puk_form.Reads as pinform-puk-form
+use Rattle.reference.proofs.record_ok.Reads as reference-record-ok
+use Rattle.reference.proofs.left.Reads as reference-left
+use Rattle.reference.proofs.equals.Reads as reference-equals
+use Rattle.reference.proofs.restore.Reads as reference-restore
+use Rattle.reference.proofs.renew.Reads as reference-renew
+use Rattle.reference.proofs.charge.Reads as reference-charge
+use Rattle.tries.proofs.restore_pin.Reads as tries-restore-pin
+use Rattle.tries.proofs.restore_puk.Reads as tries-restore-puk
+use Rattle.tries.proofs.pin_left.Reads as tries-pin-left
+use Rattle.tries.proofs.charge_pin.Reads as tries-charge-pin
+use Rattle.tries.proofs.puk_left.Reads as tries-puk-left
+use Rattle.tries.proofs.charge_puk.Reads as tries-charge-puk
+use Rattle.values.proofs.new_pin.Reads as values-new-pin
+use Rattle.values.proofs.new_puk.Reads as values-new-puk
+use Rattle.values.proofs.pin_is.Reads as values-pin-is
+use Rattle.values.proofs.puk_is.Reads as values-puk-is
+use Rattle.attempt.proofs.halves.Reads as attempt-halves
+use Rattle.attempt.proofs.tries_word.Reads as attempt-tries-word
+use Rattle.attempt.proofs.try_pin.Reads as attempt-try-pin
+use Rattle.attempt.proofs.try_puk.Reads as attempt-try-puk
+use Rattle.verifying.proofs.verify.Reads as verifying-verify
+use Rattle.changing.proofs.change.Reads as changing-change
+use Rattle.changing.proofs.reset.Reads as changing-reset
+use Rattle.pin.proofs.command.Reads as pin-command
+use Rattle.wellformed.proofs.well_formed.Reads as wellformed-well-formed
+use Rattle.store.proofs.algorithm.Reads as store-algorithm
+use Rattle.store.proofs.object.Reads as store-object
+use Rattle.store.proofs.put_object.Reads as store-put-object
+use Rattle.held.proofs.drop_held.Reads as held-drop-held
+use Rattle.held.proofs.based.Reads as held-based
+use Rattle.held.proofs.hold_piece.Reads as held-hold-piece
+use Rattle.sending.proofs.say.Reads as sending-say
+use Rattle.sending.proofs.drop_say.Reads as sending-drop-say
+use Rattle.sending.proofs.send.Reads as sending-send
+use Rattle.sending.proofs.fetch.Reads as sending-fetch
+use Rattle.apdu.proofs.check.Reads as apdu-check
+use Rattle.apdu.proofs.field.Reads as apdu-field
+use Rattle.answers.proofs.select.Reads as answers-select
+use Rattle.answers.proofs.get_response.Reads as answers-get-response
+use Rattle.objects.proofs.get_data.Reads as objects-get-data
+use Rattle.storing.proofs.put_whole.Reads as storing-put-whole
+use Rattle.putting.proofs.put_data.Reads as putting-put-data
+use Rattle.forms.proofs.admin_form.Reads as forms-admin-form
+use Rattle.forms.proofs.key_form.Reads as forms-key-form
+use Rattle.keyuse.proofs.each.Reads as keyuse-each
+use Rattle.template.proofs.whole.Reads as template-whole
+use Rattle.keys.proofs.authenticate.Reads as keys-authenticate
+use Rattle.jobs.proofs.finish.Reads as jobs-finish
+use Rattle.commands.proofs.rule.Reads as commands-rule
+use Rattle.card.proofs.power_on.Reads as card-power-on
+use Rattle.card.proofs.command.Reads as card-command
+use Rattle.card.proofs.job_result.Reads as card-job-result
+
+-- what is seen is the outcome itself
+itself : {A : Type 0} → Shows {O = A} {S = A} (λ o. o)
+itself = record { back = λ o. o; same = λ o. refl }
+
+alike : {A : Type 0} {z : A} (x y : A) → x ≡ z → y ≡ z → x ≡ y
+alike {A} {z} x y = no-second (Unit {0}) A A (λ o. o) itself (λ _. z) tt x y
+
+by-judgement : {r q : Judged} {x y : List ℕ} {z : Judgement} → judgement r x ≡ z → judgement q y ≡ z → (r ≡ q) × (x ≡ y)
+by-judgement p q = let e = alike _ _ p q in (ap (λ (j : Judgement). j .judged) e, ap (λ (j : Judgement). j .store) e)
+
+by-state : {r q : Session} {m x y : List ℕ} {z : State} → state m x r ≡ z → state m y q ≡ z → (r ≡ q) × (x ≡ y)
+by-state p q = let e = alike _ _ p q in (ap (λ (j : State). j .session) e, ap (λ (j : State). j .work) e)
+
+by-outcome : {r q : Reply} {m n w v b d : List ℕ} {z : Outcome} → outcome r m w b ≡ z → outcome q n v d ≡ z → (r ≡ q) × (m ≡ n) × (w ≡ v) × (b ≡ d)
+by-outcome p q =
+    let e = alike _ _ p q in
+    (ap (λ (o : Outcome). o .reply) e, ap (λ (o : Outcome). o .store) e, ap (λ (o : Outcome). o .work) e, ap (λ (o : Outcome). o .resp) e)
+
+anySession : Session
+anySession = record { contactless = false; pin = false; admin = false; chain = Shut; rest = Gone; challenge = Unasked; job = Idle }
+
+-- ---- octets
+
+once-octets-same : (κs : _) (a : _) (r q : Bool) (s t : _) → octets-same.Post κs a r s → octets-same.Post κs a q t → r ≡ q
+once-octets-same κs a r q s t = alike r q
+
+once-octets-part : (κs : _) (a : _) (r q : RefT (List ℕ)) (s t : _) → octets-part.Post κs a r s → octets-part.Post κs a q t → now r ≡ now q
+once-octets-part κs a r q s t = alike _ _
+
+once-octets-put : (κs : _) (a : _) (s t : _) → octets-put.Post κs a tt s → octets-put.Post κs a tt t → now (s .0) ≡ now (t .0)
+once-octets-put κs a s t = alike _ _
+
+once-octets-zero : (κs : _) (a : _) (s t : _) → octets-zero.Post κs a tt s → octets-zero.Post κs a tt t → now (s .0) ≡ now (t .0)
+once-octets-zero κs a s t = alike _ _
+
+once-octets-put-byte : (κs : _) (a : _) (s t : _) → octets-put-byte.Post κs a tt s → octets-put-byte.Post κs a tt t → now (s .0) ≡ now (t .0)
+once-octets-put-byte κs a s t = alike _ _
+
+once-octets-put-word : (κs : _) (a : _) (s t : _) → octets-put-word.Post κs a tt s → octets-put-word.Post κs a tt t → now (s .0) ≡ now (t .0)
+once-octets-put-word κs a s t = alike _ _
+
+-- ---- numbers
+
+once-numbers-be16 : (κs : _) (a : _) (r q : ℕ) (s t : _) → numbers-be16.Post κs a r s → numbers-be16.Post κs a q t → r ≡ q
+once-numbers-be16 κs a r q s t = alike r q
+
+once-numbers-be24 : (κs : _) (a : _) (r q : ℕ) (s t : _) → numbers-be24.Post κs a r s → numbers-be24.Post κs a q t → r ≡ q
+once-numbers-be24 κs a r q s t = alike r q
+
+once-numbers-be64 : (κs : _) (a : _) (r q : ℕ) (s t : _) → numbers-be64.Post κs a r s → numbers-be64.Post κs a q t → r ≡ q
+once-numbers-be64 κs a r q s t = alike r q
+
+-- ---- ber
+
+once-ber-length-bytes : (κs : _) (a : _) (r q : ℕ) (s t : _) → ber-length-bytes.Post κs a r s → ber-length-bytes.Post κs a q t → r ≡ q
+once-ber-length-bytes κs a r q s t = alike r q
+
+once-ber-read-object : (κs : _) (a : _) (r q : Found) (s t : _) → ber-read-object.Post κs a r s → ber-read-object.Post κs a q t → r ≡ q
+once-ber-read-object κs a r q s t = alike r q
+
+once-ber-write-head : (κs : _) (a : _) (r q : ℕ) (s t : _) → ber-write-head.Post κs a r s → ber-write-head.Post κs a q t → (r ≡ q) × (now (s .0) ≡ now (t .0))
+once-ber-write-head κs a r q s t x y = (alike r q (x .0) (y .0), alike _ _ (x .1) (y .1))
+
+-- ---- reader
+
+once-reader-first : (κs : _) (a : _) (r q : Found) (s t : _) → reader-first.Post κs a r s → reader-first.Post κs a q t → r ≡ q
+once-reader-first κs a r q s t = alike r q
+
+once-reader-only : (κs : _) (a : _) (r q : Found) (s t : _) → reader-only.Post κs a r s → reader-only.Post κs a q t → r ≡ q
+once-reader-only κs a r q s t = alike r q
+
+once-reader-last : (κs : _) (a : _) (r q : Found) (s t : _) → reader-last.Post κs a r s → reader-last.Post κs a q t → r ≡ q
+once-reader-last κs a r q s t = alike r q
+
+-- ---- session
+
+once-session-cleared : (κs : _) (a : _) (r q : Session) (s t : _) → session-cleared.Post κs a r s → session-cleared.Post κs a q t → r ≡ q
+once-session-cleared κs a r q s t = alike r q
+
+once-session-with-pin : (κs : _) (a : _) (r q : Session) (s t : _) → session-with-pin.Post κs a r s → session-with-pin.Post κs a q t → r ≡ q
+once-session-with-pin κs a r q s t = alike r q
+
+once-session-with-admin : (κs : _) (a : _) (r q : Session) (s t : _) → session-with-admin.Post κs a r s → session-with-admin.Post κs a q t → r ≡ q
+once-session-with-admin κs a r q s t = alike r q
+
+once-session-holding : (κs : _) (a : _) (r q : Session) (s t : _) → session-holding.Post κs a r s → session-holding.Post κs a q t → r ≡ q
+once-session-holding κs a r q s t = alike r q
+
+once-session-with-challenge : (κs : _) (a : _) (r q : Session) (s t : _) → session-with-challenge.Post κs a r s → session-with-challenge.Post κs a q t → r ≡ q
+once-session-with-challenge κs a r q s t = alike r q
+
+once-session-with-job : (κs : _) (a : _) (r q : Session) (s t : _) → session-with-job.Post κs a r s → session-with-job.Post κs a q t → r ≡ q
+once-session-with-job κs a r q s t = alike r q
+
+once-session-chain-length : (κs : _) (a : _) (r q : ℕ) (s t : _) → session-chain-length.Post κs a r s → session-chain-length.Post κs a q t → r ≡ q
+once-session-chain-length κs a r q s t = alike r q
+
+once-session-held-length : (κs : _) (a : _) (r q : ℕ) (s t : _) → session-held-length.Post κs a r s → session-held-length.Post κs a q t → r ≡ q
+once-session-held-length κs a r q s t = alike r q
+
+once-session-running : (κs : _) (a : _) (r q : Bool) (s t : _) → session-running.Post κs a r s → session-running.Post κs a q t → r ≡ q
+once-session-running κs a r q s t = alike r q
+
+-- ---- possible
+
+once-possible-possible : (κs : _) (a : _) (r q : Bool) (s t : _) → possible-possible.Post κs a r s → possible-possible.Post κs a q t → r ≡ q
+once-possible-possible κs a r q s t = alike r q
+
+-- ---- permit: for every store that is well formed or not, as the argument says; there is one of each
+
+well : wellFormed fixed ≡ true
+unfolding book fixed
+well = refl
+
+storeOf : Bool → List ℕ
+storeOf true = fixed
+storeOf false = []
+
+store-is : (b : Bool) → b ≡ wellFormed (storeOf b)
+unfolding storeOf book
+store-is true = sym well
+store-is false = refl
+
+once-permit-power-on : (κs : _) (a : _) (r q : Permit) (s t : _) → permit-power-on.Post κs a r s → permit-power-on.Post κs a q t → r ≡ q
+once-permit-power-on κs a r q s t x y =
+    alike r q (x (storeOf (a .0)) (zeros (a .1 .0)) anySession false (store-is (a .0)) (length-zeros (a .1 .0))) (y (storeOf (a .0)) (zeros (a .1 .0)) anySession false (store-is (a .0)) (length-zeros (a .1 .0)))
+
+once-permit-command : (κs : _) (a : _) (r q : Permit) (s t : _) → permit-command.Post κs a r s → permit-command.Post κs a q t → r ≡ q
+once-permit-command κs a r q s t x y =
+    let k = storeOf (a .0) in
+    let w = zeros (a .1 .1 .1 .0) in
+    let b = zeros (a .1 .1 .0) in
+    alike r q (x k w b [] (store-is (a .0)) (length-zeros (a .1 .1 .1 .0)) (length-zeros (a .1 .1 .0))) (y k w b [] (store-is (a .0)) (length-zeros (a .1 .1 .1 .0)) (length-zeros (a .1 .1 .0)))
+
+once-permit-job-result : (κs : _) (a : _) (r q : Permit) (s t : _) → permit-job-result.Post κs a r s → permit-job-result.Post κs a q t → r ≡ q
+once-permit-job-result κs a r q s t x y =
+    let k = storeOf (a .0) in
+    let n = a .1 .1 .1 .1 .1 .0 in
+    let w = zeros (a .1 .1 .1 .0) in
+    let b = zeros (a .1 .1 .0) in
+    alike r q (x k w b (zeros n) (store-is (a .0)) (length-zeros (a .1 .1 .1 .0)) (length-zeros (a .1 .1 .0)) (length-zeros n))
+    (y k w b (zeros n) (store-is (a .0)) (length-zeros (a .1 .1 .1 .0)) (length-zeros (a .1 .1 .0)) (length-zeros n))
+
+-- ---- table
+
+once-table-capacity : (κs : _) (a : _) (r q : ℕ) (s t : _) → table-capacity.Post κs a r s → table-capacity.Post κs a q t → r ≡ q
+once-table-capacity κs a r q s t = alike r q
+
+once-table-offset : (κs : _) (a : _) (r q : ℕ) (s t : _) → table-offset.Post κs a r s → table-offset.Post κs a q t → r ≡ q
+once-table-offset κs a r q s t = alike r q
+
+once-table-slot-named : (κs : _) (a : _) (r q : ℕ) (s t : _) → table-slot-named.Post κs a r s → table-slot-named.Post κs a q t → r ≡ q
+once-table-slot-named κs a r q s t = alike r q
+
+once-table-readable : (κs : _) (a : _) (r q : Bool) (s t : _) → table-readable.Post κs a r s → table-readable.Post κs a q t → r ≡ q
+once-table-readable κs a r q s t = alike r q
+
+once-table-takes : (κs : _) (a : _) (r q : Bool) (s t : _) → table-takes.Post κs a r s → table-takes.Post κs a q t → r ≡ q
+once-table-takes κs a r q s t x y = alike r q (x []) (y [])
+
+-- ---- pinform
+
+once-pinform-pin-form : (κs : _) (a : _) (r q : Bool) (s t : _) → pinform-pin-form.Post κs a r s → pinform-pin-form.Post κs a q t → r ≡ q
+once-pinform-pin-form κs a r q s t = alike r q
+
+once-pinform-puk-form : (κs : _) (a : _) (r q : Bool) (s t : _) → pinform-puk-form.Post κs a r s → pinform-puk-form.Post κs a q t → r ≡ q
+once-pinform-puk-form κs a r q s t = alike r q
+
+-- ---- reference
+
+once-reference-record-ok : (κs : _) (a : _) (r q : Bool) (s t : _) → reference-record-ok.Post κs a r s → reference-record-ok.Post κs a q t → r ≡ q
+once-reference-record-ok κs a r q s t = alike r q
+
+once-reference-left : (κs : _) (a : _) (r q : ℕ) (s t : _) → reference-left.Post κs a r s → reference-left.Post κs a q t → r ≡ q
+once-reference-left κs a r q s t = alike r q
+
+once-reference-equals : (κs : _) (a : _) (r q : Bool) (s t : _) → reference-equals.Post κs a r s → reference-equals.Post κs a q t → r ≡ q
+once-reference-equals κs a r q s t = alike r q
+
+once-reference-restore : (κs : _) (a : _) (s t : _) → reference-restore.Post κs a tt s → reference-restore.Post κs a tt t → now (s .0) ≡ now (t .0)
+once-reference-restore κs a s t = alike _ _
+
+once-reference-renew : (κs : _) (a : _) (s t : _) → reference-renew.Post κs a tt s → reference-renew.Post κs a tt t → now (s .0) ≡ now (t .0)
+once-reference-renew κs a s t = alike _ _
+
+once-reference-charge : (κs : _) (a : _) (r q : ℕ) (s t : _) → reference-charge.Post κs a r s → reference-charge.Post κs a q t → (r ≡ q) × (now (s .0) ≡ now (t .0))
+once-reference-charge κs a r q s t x y = (alike r q (x .1) (y .1), alike _ _ (x .0) (y .0))
+
+-- ---- tries
+
+once-tries-restore-pin : (κs : _) (a : _) (s t : _) → tries-restore-pin.Post κs a tt s → tries-restore-pin.Post κs a tt t → now (s .0) ≡ now (t .0)
+once-tries-restore-pin κs a s t x y = alike _ _ (x false) (y false)
+
+once-tries-restore-puk : (κs : _) (a : _) (s t : _) → tries-restore-puk.Post κs a tt s → tries-restore-puk.Post κs a tt t → now (s .0) ≡ now (t .0)
+once-tries-restore-puk κs a s t x y = alike _ _ (x false) (y false)
+
+once-tries-pin-left : (κs : _) (a : _) (r q : PinTries) (s t : _) → tries-pin-left.Post κs a r s → tries-pin-left.Post κs a q t → r .0 ≡ q .0
+once-tries-pin-left κs a r q s t x y = alike _ _ (x false) (y false)
+
+once-tries-charge-pin : (κs : _) (a : _) (r q : PinTries) (s t : _) → tries-charge-pin.Post κs a r s → tries-charge-pin.Post κs a q t → (r .0 ≡ q .0) × (now (s .0) ≡ now (t .0))
+once-tries-charge-pin κs a r q s t x y = (alike _ _ (x .1) (y .1), alike _ _ (x .0 false) (y .0 false))
+
+once-tries-puk-left : (κs : _) (a : _) (r q : PukTries) (s t : _) → tries-puk-left.Post κs a r s → tries-puk-left.Post κs a q t → r .0 ≡ q .0
+once-tries-puk-left κs a r q s t x y = alike _ _ (x false) (y false)
+
+once-tries-charge-puk : (κs : _) (a : _) (r q : PukTries) (s t : _) → tries-charge-puk.Post κs a r s → tries-charge-puk.Post κs a q t → (r .0 ≡ q .0) × (now (s .0) ≡ now (t .0))
+once-tries-charge-puk κs a r q s t x y = (alike _ _ (x .1) (y .1), alike _ _ (x .0 false) (y .0 false))
+
+-- ---- values
+
+once-values-new-pin : (κs : _) (a : _) (s t : _) → values-new-pin.Post κs a tt s → values-new-pin.Post κs a tt t → now (s .0) ≡ now (t .0)
+once-values-new-pin κs a s t x y = alike _ _ (x false) (y false)
+
+once-values-new-puk : (κs : _) (a : _) (s t : _) → values-new-puk.Post κs a tt s → values-new-puk.Post κs a tt t → now (s .0) ≡ now (t .0)
+once-values-new-puk κs a s t x y = alike _ _ (x false) (y false)
+
+once-values-pin-is : (κs : _) (a : _) (r q : Bool) (s t : _) → values-pin-is.Post κs a r s → values-pin-is.Post κs a q t → r ≡ q
+once-values-pin-is κs a r q s t x y = alike r q (x false) (y false)
+
+once-values-puk-is : (κs : _) (a : _) (r q : Bool) (s t : _) → values-puk-is.Post κs a r s → values-puk-is.Post κs a q t → r ≡ q
+once-values-puk-is κs a r q s t x y = alike r q (x false) (y false)
+
+-- ---- attempt
+
+once-attempt-halves : (κs : _) (a : _) (r q : ℕ) (s t : _) → attempt-halves.Post κs a r s → attempt-halves.Post κs a q t → r ≡ q
+once-attempt-halves κs a r q s t = alike r q
+
+once-attempt-tries-word : (κs : _) (a : _) (r q : ℕ) (s t : _) → attempt-tries-word.Post κs a r s → attempt-tries-word.Post κs a q t → r ≡ q
+once-attempt-tries-word κs a r q s t = alike r q
+
+once-attempt-try-pin : (κs : _) (a : _) (r q : Tried) (s t : _) → attempt-try-pin.Post κs a r s → attempt-try-pin.Post κs a q t → (r ≡ q) × (now (s .0) ≡ now (t .0))
+once-attempt-try-pin κs a r q s t x y = (alike r q (x .1) (y .1), alike _ _ (x .0 false) (y .0 false))
+
+once-attempt-try-puk : (κs : _) (a : _) (r q : Tried) (s t : _) → attempt-try-puk.Post κs a r s → attempt-try-puk.Post κs a q t → (r ≡ q) × (now (s .0) ≡ now (t .0))
+once-attempt-try-puk κs a r q s t x y = (alike r q (x .1) (y .1), alike _ _ (x .0 false) (y .0 false))
+
+-- ---- verifying
+
+once-verifying-verify : (κs : _) (a : _) (r q : Judged) (s t : _) → verifying-verify.Post κs a r s → verifying-verify.Post κs a q t → (r ≡ q) × (now (s .0) ≡ now (t .0))
+once-verifying-verify κs a r q s t x y = by-judgement x y
+
+-- ---- changing
+
+once-changing-change : (κs : _) (a : _) (r q : Judged) (s t : _) → changing-change.Post κs a r s → changing-change.Post κs a q t → (r ≡ q) × (now (s .0) ≡ now (t .0))
+once-changing-change κs a r q s t x y = by-judgement x y
+
+once-changing-reset : (κs : _) (a : _) (r q : Judged) (s t : _) → changing-reset.Post κs a r s → changing-reset.Post κs a q t → (r ≡ q) × (now (s .0) ≡ now (t .0))
+once-changing-reset κs a r q s t x y = by-judgement x y
+
+-- ---- pin
+
+once-pin-command : (κs : _) (a : _) (r q : Reply) (s t : _) → pin-command.Post κs a r s → pin-command.Post κs a q t → (r ≡ q) × (now (s .1 .0) ≡ now (t .1 .0)) × (now (s .1 .1 .0) ≡ now (t .1 .1 .0)) × (now (s .1 .1 .1 .0) ≡ now (t .1 .1 .1 .0))
+once-pin-command κs a r q s t x y = let e = by-outcome x y in (e .0, e .1, e .2, e .3)
+
+-- ---- wellformed
+
+once-wellformed-well-formed : (κs : _) (a : _) (r q : Bool) (s t : _) → wellformed-well-formed.Post κs a r s → wellformed-well-formed.Post κs a q t → r ≡ q
+once-wellformed-well-formed κs a r q s t = alike r q
+
+-- ---- store
+
+once-store-algorithm : (κs : _) (a : _) (r q : ℕ) (s t : _) → store-algorithm.Post κs a r s → store-algorithm.Post κs a q t → r ≡ q
+once-store-algorithm κs a r q s t = alike r q
+
+once-store-object : (κs : _) (a : _) (r q : RefT (List ℕ)) (s t : _) → store-object.Post κs a r s → store-object.Post κs a q t → now r ≡ now q
+once-store-object κs a r q s t = alike _ _
+
+once-store-put-object : (κs : _) (a : _) (s t : _) → store-put-object.Post κs a tt s → store-put-object.Post κs a tt t → now (s .0) ≡ now (t .0)
+once-store-put-object κs a s t = alike _ _
+
+-- ---- held
+
+once-held-drop-held : (κs : _) (a : _) (r q : Session) (s t : _) → held-drop-held.Post κs a r s → held-drop-held.Post κs a q t → (r ≡ q) × (now (s .1 .0) ≡ now (t .1 .0))
+once-held-drop-held κs a r q s t x y = by-state (x []) (y [])
+
+once-held-based : (κs : _) (a : _) (r q : Session) (s t : _) → held-based.Post κs a r s → held-based.Post κs a q t → (r ≡ q) × (now (s .1 .0) ≡ now (t .1 .0))
+once-held-based κs a r q s t x y = by-state (x []) (y [])
+
+once-held-hold-piece : (κs : _) (a : _) (r q : Session) (s t : _) → held-hold-piece.Post κs a r s → held-hold-piece.Post κs a q t → (r ≡ q) × (now (s .1 .0) ≡ now (t .1 .0))
+once-held-hold-piece κs a r q s t x y = by-state (x []) (y [])
+
+-- ---- sending
+
+once-sending-say : (κs : _) (a : _) (r q : Reply) (s t : _) → sending-say.Post κs a r s → sending-say.Post κs a q t → (r ≡ q) × (now (s .1 .0) ≡ now (t .1 .0))
+once-sending-say κs a r q s t x y = let e = by-outcome (x [] []) (y [] []) in (e .0, e .3)
+
+once-sending-drop-say : (κs : _) (a : _) (r q : Reply) (s t : _) → sending-drop-say.Post κs a r s → sending-drop-say.Post κs a q t → (r ≡ q) × (now (s .1 .0) ≡ now (t .1 .0)) × (now (s .1 .1 .0) ≡ now (t .1 .1 .0))
+once-sending-drop-say κs a r q s t x y = let e = by-outcome (x []) (y []) in (e .0, e .2, e .3)
+
+once-sending-send : (κs : _) (a : _) (r q : Reply) (s t : _) → sending-send.Post κs a r s → sending-send.Post κs a q t → (r ≡ q) × (now (s .1 .0) ≡ now (t .1 .0)) × (now (s .1 .1 .0) ≡ now (t .1 .1 .0))
+once-sending-send κs a r q s t x y = let e = by-outcome (x []) (y []) in (e .0, e .2, e .3)
+
+once-sending-fetch : (κs : _) (a : _) (r q : Reply) (s t : _) → sending-fetch.Post κs a r s → sending-fetch.Post κs a q t → (r ≡ q) × (now (s .1 .0) ≡ now (t .1 .0)) × (now (s .1 .1 .0) ≡ now (t .1 .1 .0))
+once-sending-fetch κs a r q s t x y = let e = by-outcome (x []) (y []) in (e .0, e .2, e .3)
+
+-- ---- apdu
+
+once-apdu-check : (κs : _) (a : _) (r q : Checked) (s t : _) → apdu-check.Post κs a r s → apdu-check.Post κs a q t → r ≡ q
+once-apdu-check κs a r q s t = alike r q
+
+once-apdu-field : (κs : _) (a : _) (r q : RefT (List ℕ)) (s t : _) → apdu-field.Post κs a r s → apdu-field.Post κs a q t → now r ≡ now q
+once-apdu-field κs a r q s t = alike _ _
+
+-- ---- answers
+
+once-answers-select : (κs : _) (a : _) (r q : Reply) (s t : _) → answers-select.Post κs a r s → answers-select.Post κs a q t → (r ≡ q) × (now (s .1 .0) ≡ now (t .1 .0)) × (now (s .1 .1 .0) ≡ now (t .1 .1 .0))
+once-answers-select κs a r q s t x y = let e = by-outcome (x []) (y []) in (e .0, e .2, e .3)
+
+once-answers-get-response : (κs : _) (a : _) (r q : Reply) (s t : _) → answers-get-response.Post κs a r s → answers-get-response.Post κs a q t → (r ≡ q) × (now (s .1 .0) ≡ now (t .1 .0)) × (now (s .1 .1 .0) ≡ now (t .1 .1 .0))
+once-answers-get-response κs a r q s t x y = let e = by-outcome (x []) (y []) in (e .0, e .2, e .3)
+
+-- ---- objects
+
+once-objects-get-data : (κs : _) (a : _) (r q : Reply) (s t : _) → objects-get-data.Post κs a r s → objects-get-data.Post κs a q t → (r ≡ q) × (now (s .1 .1 .0) ≡ now (t .1 .1 .0)) × (now (s .1 .1 .1 .0) ≡ now (t .1 .1 .1 .0))
+once-objects-get-data κs a r q s t x y = let e = by-outcome x y in (e .0, e .2, e .3)
+
+-- ---- storing
+
+same-word : (r q : ℕ) → r < 65536 → q < 65536 → splice [] 0 (word r) ≡ splice [] 0 (word q) → r ≡ q
+unfolding splice word
+same-word r q h k e =
+    let high : r / 256 % 256 ≡ q / 256 % 256 = ap (λ (l : List ℕ). getD l 0 0) e in
+    let low : r % 256 ≡ q % 256 = ap (λ (l : List ℕ). getD l 1 0) e in
+    omega arith
+
+once-storing-put-whole : (κs : _) (a : _) (r q : ℕ) (s t : _) → r < 65536 → q < 65536 → storing-put-whole.Post κs a r s → storing-put-whole.Post κs a q t
+    → (r ≡ q) × (now (s .0) ≡ now (t .0))
+once-storing-put-whole κs a r q s t h k x y =
+    let e = by-outcome (x [] [] anySession) (y [] [] anySession) in
+    (same-word r q h k (e .3), e .1)
+
+-- ---- putting
+
+once-putting-put-data : (κs : _) (a : _) (r q : Reply) (s t : _) → putting-put-data.Post κs a r s → putting-put-data.Post κs a q t → (r ≡ q) × (now (s .1 .0) ≡ now (t .1 .0)) × (now (s .1 .1 .0) ≡ now (t .1 .1 .0)) × (now (s .1 .1 .1 .0) ≡ now (t .1 .1 .1 .0))
+once-putting-put-data κs a r q s t x y = let e = by-outcome x y in (e .0, e .1, e .2, e .3)
+
+-- ---- forms
+
+once-forms-admin-form : (κs : _) (a : _) (r q : Admin) (s t : _) → forms-admin-form.Post κs a r s → forms-admin-form.Post κs a q t → r ≡ q
+once-forms-admin-form κs a r q s t = alike r q
+
+once-forms-key-form : (κs : _) (a : _) (r q : Found) (s t : _) → forms-key-form.Post κs a r s → forms-key-form.Post κs a q t → r ≡ q
+once-forms-key-form κs a r q s t = alike r q
+
+-- ---- keyuse
+
+once-keyuse-each : (κs : _) (a : _) (r q : ℕ) (s t : _) → keyuse-each.Post κs a r s → keyuse-each.Post κs a q t → r ≡ q
+once-keyuse-each κs a r q s t x y = alike r q (x []) (y [])
+
+-- ---- template
+
+once-template-whole : (κs : _) (a : _) (r q : Reply) (s t : _) → template-whole.Post κs a r s → template-whole.Post κs a q t → (r ≡ q) × (now (s .1 .1 .0) ≡ now (t .1 .1 .0))
+once-template-whole κs a r q s t x y = let e = by-outcome (x [] []) (y [] []) in (e .0, e .3)
+
+-- ---- keys
+
+once-keys-authenticate : (κs : _) (a : _) (r q : Reply) (s t : _) → keys-authenticate.Post κs a r s → keys-authenticate.Post κs a q t → (r ≡ q) × (now (s .1 .1 .1 .0) ≡ now (t .1 .1 .1 .0)) × (now (s .1 .1 .1 .1 .0) ≡ now (t .1 .1 .1 .1 .0))
+once-keys-authenticate κs a r q s t x y = let e = by-outcome x y in (e .0, e .2, e .3)
+
+-- ---- jobs
+
+once-jobs-finish : (κs : _) (a : _) (r q : Reply) (s t : _) → jobs-finish.Post κs a r s → jobs-finish.Post κs a q t → (r ≡ q) × (now (s .1 .0) ≡ now (t .1 .0)) × (now (s .1 .1 .0) ≡ now (t .1 .1 .0))
+once-jobs-finish κs a r q s t x y = let e = by-outcome (x []) (y []) in (e .0, e .2, e .3)
+
+-- ---- commands
+
+once-commands-rule : (κs : _) (a : _) (r q : Reply) (s t : _) → commands-rule.Post κs a r s → commands-rule.Post κs a q t → (r ≡ q) × (now (s .1 .1 .0) ≡ now (t .1 .1 .0)) × (now (s .1 .1 .1 .0) ≡ now (t .1 .1 .1 .0)) × (now (s .1 .1 .1 .1 .0) ≡ now (t .1 .1 .1 .1 .0))
+once-commands-rule κs a r q s t x y = let e = by-outcome x y in (e .0, e .1, e .2, e .3)
+
+-- ---- card
+
+once-card-power-on : (κs : _) (a : _) (r q : Reply) (s t : _) → card-power-on.Post κs a r s → card-power-on.Post κs a q t → (r ≡ q) × (now (s .1 .0) ≡ now (t .1 .0))
+once-card-power-on κs a r q s t x y = let e = by-outcome (x anySession) (y anySession) in (e .0, e .2)
+
+once-card-command : (κs : _) (a : _) (r q : Reply) (s t : _) → card-command.Post κs a r s → card-command.Post κs a q t → (r ≡ q) × (now (s .1 .0) ≡ now (t .1 .0)) × (now (s .1 .1 .0) ≡ now (t .1 .1 .0)) × (now (s .1 .1 .1 .0) ≡ now (t .1 .1 .1 .0))
+once-card-command κs a r q s t x y = let e = by-outcome x y in (e .0, e .1, e .2, e .3)
+
+once-card-job-result : (κs : _) (a : _) (r q : Reply) (s t : _) → card-job-result.Post κs a r s → card-job-result.Post κs a q t → (r ≡ q) × (now (s .1 .1 .0) ≡ now (t .1 .1 .0)) × (now (s .1 .1 .1 .0) ≡ now (t .1 .1 .1 .0))
+once-card-job-result κs a r q s t x y = let e = by-outcome x y in (e .0, e .2, e .3)
