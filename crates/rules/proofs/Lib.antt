@@ -19,3 +19,4 @@ pub mod ReadBack
 pub mod Refusals
 pub mod Starred
 pub mod Words
+pub mod Instances

@@ -23,10 +23,10 @@ use Rattle.rules.specs.Objects.{putForm, stored, putSlot, putWhole, putP
 use Rattle.rules.specs.Calls.{Call, powers, sends, permit, Result, delivered, granted, denied, decided, call}
 use Rattle.rules.specs.Runs.{leaves, endOf}
 use Rattle.rules.specs.Claims.Invariants.{Plain, Each}
-use Rattle.rules.specs.Claims.ReadBack.{putField, putOpen, Pieces, Untouched, Answers, Holds}
+use Rattle.rules.specs.Claims.ReadBack.{putField, putOpen, Pieces, Untouched, Answers, Replaced, Holds}
 use Rattle.rules.proofs.Tests.{either, by-equal}
 use Rattle.rules.proofs.Lists.{part-ext}
-use Rattle.rules.proofs.Slots.{Sound, slot-fits, slot-from, put-object-other}
+use Rattle.rules.proofs.Slots.{Sound, slot-fits, slot-from, put-object, put-tail, put-object-other}
 use Rattle.rules.proofs.WellFormed.{wf-size, wf-sound}
 use Rattle.rules.proofs.Kept.{Well, Moved}
 use Rattle.rules.proofs.Invariants.{After, call-kept, start-well}
@@ -77,12 +77,16 @@ read-back st g pieces between pb bb i v hi o p u j =
 
 -- ---- others, and unfinished
 
-other-objects : (st : State) → Well st → (k : Call) → Plain k → (i : ℕ) (v : List ℕ) → (call st k) .wrote ≡ inSlot i v
-    → ((call st k) .outcome .store ≡ putObject (st .store) i v) × ((j : ℕ) → j < slots → (i ≡ j → ⊥) → objectOf ((call st k) .outcome .store) j ≡ objectOf (st .store) j)
-other-objects st g k b i v e =
+replaced : (st : State) → Well st → (k : Call) → Plain k → (i : ℕ) (v : List ℕ) → (call st k) .wrote ≡ inSlot i v → Replaced (st .store) ((call st k) .outcome .store) i v
+replaced st g k b i v e =
     let m : Moved (st .store) ((call st k) .outcome .store) (inSlot i v) = subst (Moved (st .store) ((call st k) .outcome .store)) e (call-kept st g k b .moved) in
     let so : Sound (st .store) = wf-sound _ (g .wf) in
-    (m .2, λ j hj ne. ap (λ (l : List ℕ). objectOf l j) (m .2) ∙ put-object-other (st .store) i v (m .0) (m .1) (so .size) j hj ne (so .lengths j hj))
+    subst (λ (t : List ℕ). Replaced (st .store) t i v) (sym (m .2)) (record {
+      slot = m .0;
+      object = put-object (st .store) i v (m .0) (m .1) (so .size);
+      tail = λ n l h. put-tail (st .store) i v (m .0) (m .1) (so .size) n l h;
+      others = λ j hj ne. put-object-other (st .store) i v (m .0) (m .1) (so .size) j hj ne (so .lengths j hj);
+    })
 
 -- a command that wrote nothing left the store
 abbrev Left : List ℕ → Made → Type 0
@@ -127,6 +131,6 @@ back-again = record {
   back = λ s w ss air e before pieces between b pb bb i v hi st q o p u now n j.
       subst (λ (x : State). Answers x i v) (sym n)
       (read-back st (subst Well (sym q) (start-well s w ss air e before b)) pieces between pb bb i v hi o p u (subst (λ (x : State). jobOpen (x .session) ≡ false) n j));
-  others = λ s w ss air e ks b st q k kb i v wr. other-objects st (subst Well (sym q) (start-well s w ss air e ks b)) k kb i v wr;
+  others = λ s w ss air e ks b st q k kb i v wr. replaced st (subst Well (sym q) (start-well s w ss air e ks b)) k kb i v wr;
   unfinished = put-left;
 }

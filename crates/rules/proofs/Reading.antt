@@ -134,7 +134,7 @@ bytes-append : (l m : List ℕ) → Bytes l → Bytes m → Bytes (l ++ m)
 bytes-append [] m a b = b
 bytes-append (x ∷ l) m a b = bytes-cons x (l ++ m) (a 0) (bytes-append l m (λ i. a (suc i)) b)
 
-all-bytes : (l : List ℕ) → all (λ x. ltb x 256) l ≡ true → Bytes l
+pub all-bytes : (l : List ℕ) → all (λ x. ltb x 256) l ≡ true → Bytes l
 all-bytes [] e = bytes-nil
 all-bytes (x ∷ l) e = bytes-cons x l (ltb-true x 256 (and-left (ltb x 256) _ e)) (all-bytes l (and-right (ltb x 256) _ e))
 

@@ -9,7 +9,7 @@
 --   put-before put-in put-after put-other    the bytes of a store in which an object was put
 --   put-size               it keeps its size
 --   put-length put-length-other              the lengths in it
---   put-object put-object-other              the object put is there, and the others stay
+--   put-object put-tail put-object-other     the object put is there, zeros behind it, and the others stay
 --   sound-put              it stays sound
 --
 -- Assumes nothing.
@@ -20,7 +20,7 @@ use mathlib.Core.List.{List, [], _∷_, _++_}
 use Prim.Native.Nat.{ℕ, zero, suc, _+_, _-_, _*_, _/_, _%_, _≤_, _<_}
 use native.Mathlib.Omega.{arith}
 use lib.Dec.{ltb, leb, eqb}
-use lib.ListN.{length, getD, length-append, length-replicate, List·getD-append}
+use lib.ListN.{length, getD, length-append, length-replicate, getD-replicate, List·getD-append}
 use lib.Seq.{getD-append-add, ext-getD}
 use borrow.Author.Tests.{eqb-true, leb-true}
 use Rattle.rules.specs.Bytes.{allBelow, part, splice, zeros, word, be16}
@@ -134,6 +134,16 @@ module _ (s : List ℕ) (i : ℕ) (v : List ℕ) (hi : i < slots) (hv : length v
   value-at k h =
       getD-append-add (length v / 256 % 256 ∷ length v % 256 ∷ []) (v ++ zeros (capacity i - length v)) k 0
       ∙ List·getD-append v _ 0 k h
+
+  -- and behind it zeros
+  pub put-tail : (n : ℕ) → length v ≤ n → n < capacity i → getD (putObject s i v) (offset i + (2 + n)) 0 ≡ 0
+  unfolding slotBytes word zeros
+  put-tail n l h =
+      put-in (2 + n) (omega arith)
+      ∙ getD-append-add (length v / 256 % 256 ∷ length v % 256 ∷ []) (v ++ zeros (capacity i - length v)) n 0
+      ∙ ap (λ (k : ℕ). getD (v ++ zeros (capacity i - length v)) k 0) (omega arith)
+      ∙ getD-append-add v (zeros (capacity i - length v)) (n - length v) 0
+      ∙ getD-replicate (capacity i - length v) (n - length v) 0 0 (omega arith)
 
   object-fits : offset i + 2 + length v ≤ length (putObject s i v)
   object-fits = omega (arith, put-size, slot-fits i hi)

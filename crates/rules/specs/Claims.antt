@@ -8,6 +8,7 @@
 --   Invariants    what stays true over every run from an accepted power-on
 --   ReadBack      an object stored is what GET DATA and GET RESPONSEs hand back
 --   Secrecy       a found card tells its finder nothing of the PIN, the PUK and the PIN-read objects
+--   Instances     the premises of these claims can be met: a run for each
 pub mod Starred
 pub mod Lengths
 pub mod NoSecond
@@ -16,3 +17,4 @@ pub mod Words
 pub mod Invariants
 pub mod ReadBack
 pub mod Secrecy
+pub mod Instances

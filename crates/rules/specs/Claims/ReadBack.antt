@@ -12,6 +12,7 @@
 --   Ask · reading i a bs  a response buffer and an Le; GET DATA of slot i and GET RESPONSEs straight after it
 --   Ends n bs             the asks of the row end where nothing is left of n bytes, and not before
 --   Answers st i v        what is said in the state st of slot i, which holds v
+--   Replaced s t i v      what a completed PUT DATA made of the store s
 --   Holds                 the claim
 --
 -- Assumes nothing.
@@ -20,7 +21,7 @@ use mathlib.Core.Bool.{Bool, true, false, _&&_}
 use mathlib.Core.List.{List, [], _∷_, _++_, map}
 use Prim.Native.Nat.{ℕ, _+_, _-_, _/_, _%_, _≤_, _<_}
 use lib.Dec.{eqb}
-use lib.ListN.{length, take}
+use lib.ListN.{length, take, getD}
 use Rattle.rules.specs.declared.Chain.{Chain}
 use Rattle.rules.specs.declared.Chain.the-variants.{Shut, Open}
 use Rattle.rules.specs.declared.Header.{Header}
@@ -32,7 +33,7 @@ use Rattle.rules.specs.declared.Answer.the-variants.{PoweredOn, Response
 use Rattle.rules.specs.declared.Session.{Session}
 use Rattle.rules.specs.Bytes.{iff, be16}
 use Rattle.rules.specs.Ber.{tlv}
-use Rattle.rules.specs.Store.{slots, discovery, responseSize, tagOf, objectOf, putObject}
+use Rattle.rules.specs.Store.{slots, discovery, responseSize, capacity, offset, tagOf, objectOf}
 use Rattle.rules.specs.Session.{State, state, readable, jobOpen}
 use Rattle.rules.specs.Command.{leOf, fieldOf, check, nothing, inSlot}
 use Rattle.rules.specs.Objects.{objectTag}
@@ -167,11 +168,18 @@ pub record Answers (st : State) (i : ℕ) (v : List ℕ) : Type 0 where
   pub shut : readable (st .session) i ≡ false → (a : Ask) → AskOk a
       → (joined (run st (reading i a [])) ≡ []) × (lastWord (run st (reading i a [])) ≡ 0x6982)
 
+-- the store t is s with v in slot i: it holds v, zeros stand behind v in the slot, and the other slots are as they were
+pub record Replaced (s t : List ℕ) (i : ℕ) (v : List ℕ) : Type 0 where
+  pub slot : i < slots
+  pub object : objectOf t i ≡ v
+  pub tail : (m : ℕ) → length v ≤ m → m < capacity i → getD t (offset i + (2 + m)) 0 ≡ 0
+  pub others : (j : ℕ) → j < slots → (i ≡ j → ⊥) → objectOf t j ≡ objectOf s j
+
 -- ---- the claim
 
 -- back: a run from an accepted power-on: calls `before`; a PUT DATA of slot i with the value v, in pieces, while no other is open; calls
 -- `between`, none of which completes another of that slot. Unless a job is open then, GET DATA answers so
--- others: a completed PUT DATA leaves every other object as it was
+-- others: a completed PUT DATA leaves every other object as it was, and zeros behind its own in the slot
 -- unfinished: a PUT DATA that does not complete changes no byte of the store
 pub record Holds : Type 0 where
   pub back : (s w : List ℕ) (ss : Session) (air : Bool) → permit (state s w ss) (powers air) ≡ Granted
@@ -183,6 +191,6 @@ pub record Holds : Type 0 where
   pub others : (s w : List ℕ) (ss : Session) (air : Bool) → permit (state s w ss) (powers air) ≡ Granted
       → (ks : List Call) → Each Plain ks → (st : State) → st ≡ endOf (state s w ss) (powers air ∷ ks)
       → (k : Call) → Plain k → (i : ℕ) (v : List ℕ) → (call st k) .wrote ≡ inSlot i v
-      → ((call st k) .outcome .store ≡ putObject (st .store) i v) × ((j : ℕ) → j < slots → (i ≡ j → ⊥) → objectOf ((call st k) .outcome .store) j ≡ objectOf (st .store) j)
+      → Replaced (st .store) ((call st k) .outcome .store) i v
   pub unfinished : (st : State) (resp c : List ℕ) (h : Header) → check (st .session .contactless) c ≡ Passed h → h .ins ≡ 0xDB
       → (call st (sends resp c)) .wrote ≡ nothing → (call st (sends resp c)) .outcome .store ≡ st .store
