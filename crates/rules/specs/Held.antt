@@ -27,7 +27,7 @@ use Rattle.rules.specs.declared.Challenge.the-variants.{Unasked}
 use Rattle.rules.specs.declared.Header.{Header}
 use Rattle.rules.specs.declared.Session.{Session}
 use Rattle.rules.specs.Bytes.{iff, part, splice, zeroed}
-use Rattle.rules.specs.Session.{State, state, working, inSession, holding, withChallenge, chainLength, heldLength}
+use Rattle.rules.specs.Session.{State, state, inSession, holding, withChallenge, chainLength, heldLength}
 use Rattle.rules.specs.Command.{Made, responds, tells, says}
 
 -- ---- dropping

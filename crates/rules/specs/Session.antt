@@ -12,7 +12,7 @@
 --   possible ss           ss is a session that a call takes
 --   State                 store, work area and session: what passes from one call to the next
 --   state s w ss          these three as a state
---   storing st s · working st w · inSession st ss    a state with one of the three replaced
+--   storing st s · inSession st ss    a state with one of the three replaced
 --
 -- Assumes nothing.
 use mathlib.Core.Bool.{Bool, true, false, not, _&&_, _||_}
@@ -204,9 +204,6 @@ state s w ss = record { store = s; work = w; session = ss }
 
 abbrev pub storing : State → List ℕ → State
 storing st s = state s (st .work) (st .session)
-
-abbrev pub working : State → List ℕ → State
-working st w = state (st .store) w (st .session)
 
 abbrev pub inSession : State → Session → State
 inSession st ss = state (st .store) (st .work) ss
