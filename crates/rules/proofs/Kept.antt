@@ -720,7 +720,7 @@ module _ (st : State) (f : Fine st) (h : Header) (d : List ℕ) where
 obeyed-kept : (st : State) → Fine st → challengeHeld (st .session .challenge) ≡ false → (ch : Challenge) (c : List ℕ) (x : Checked)
     → Right (st .session .contactless) x → Kept (st .store) (obeyed st ch c x)
 unfolding obeyed
-obeyed-kept st f still ch c (Failed sw) r = drop-kept st f sw
+obeyed-kept st f still ch c (Failed sw) r = drop-kept st f _
 obeyed-kept st f still ch c (Passed h) r = ruled-kept st f h (fieldOf c h) still ch r
 
 pub fine-calm : (st : State) → Fine st → Fine (calm st)

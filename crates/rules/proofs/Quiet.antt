@@ -442,7 +442,7 @@ module _ (s t w : List ℕ) (ss : Session) (pn : ss .pin ≡ false) (k : Pair s 
 
   obeyed-quiet : (ch : Challenge) (c : List ℕ) (x : Checked) → Quiet (obeyed (state s w ss) ch c x) (obeyed (state t w ss) ch c x)
   unfolding obeyed
-  obeyed-quiet ch c (Failed sw) = drop-says _ _ both sw
+  obeyed-quiet ch c (Failed sw) = drop-says _ _ both _
   obeyed-quiet ch c (Passed h) = ruled-quiet ch h (fieldOf c h)
 
   answered-quiet : (key le : ℕ) (failed : Bool) (r : List ℕ) → Quiet (answered (state s w ss) key le failed r) (answered (state t w ss) key le failed r)
