@@ -34,6 +34,7 @@ use Rattle.rules.specs.Claims.Invariants.{Plain, Each, Sane, Pardoned, H
 use Rattle.rules.proofs.Tests.{branch, off, by-order, and-other}
 use Rattle.rules.proofs.WellFormed.{wf-tests}
 use Rattle.rules.proofs.StaysWell.{tries}
+use Rattle.rules.proofs.Earned.{call-earned}
 use Rattle.rules.proofs.Kept.{Zero, Well, Moved, Kept, Tests, possible-tests, well-fine, held-fits-by, command-kept, finished-kept, length-zeros}
 
 -- ---- the row of refusals
@@ -215,4 +216,5 @@ pub invariants : Holds
 invariants = record {
   always = λ s w ss air e ks b. well-sane _ (start-well s w ss air e ks b);
   passedOn = λ s w ss air e ks b k r q. subst Pardons q (well-pardons _ (start-well s w ss air e ks b) k);
+  earned = call-earned;
 }

@@ -8,6 +8,7 @@ pub mod Slots
 pub mod WellFormed
 pub mod StaysWell
 pub mod Kept
+pub mod Earned
 pub mod Alike
 pub mod Quiet
 pub mod Invariants
