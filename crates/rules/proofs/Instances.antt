@@ -9,7 +9,7 @@ use lib.Dec.{ltb, leb}
 use lib.ListN.{length, getD, replicate, length-replicate}
 use borrow.Author.Tests.{le-leb, lt-ltb}
 use Rattle.rules.specs.declared.Header.{Header}
-use Rattle.rules.specs.declared.Checked.the-variants.{Passed}
+use Rattle.rules.specs.declared.Checked.the-variants.{Passed, Failed}
 use Rattle.rules.specs.declared.Chain.the-variants.{Open}
 use Rattle.rules.specs.declared.Rest.the-variants.{Gone}
 use Rattle.rules.specs.declared.Challenge.the-variants.{Awaits}
@@ -23,12 +23,13 @@ use Rattle.rules.specs.Ber.{tlv}
 use Rattle.rules.specs.Objects.{objectTag}
 use Rattle.rules.specs.Store.{storeSize, workSize, slots, capacity, offset, slotBytes, putObject, wellFormed}
 use Rattle.rules.specs.Session.{State, state, cleared, holding, withAdmin, withChallenge, withJob, jobOpen, readable}
-use Rattle.rules.specs.Command.{Wrote, nothing, inSlot}
+use Rattle.rules.specs.Command.{check, Wrote, nothing, inSlot}
 use Rattle.rules.specs.Keys.{resultFits, finished}
 use Rattle.rules.specs.Calls.{command, Call, powers, sends, illSession, shortResponse, interrupts, unasked, wrongResult, permit, Result, delivered, poweredOn, granted, keptSession, denied, decided, call}
 use Rattle.rules.specs.Runs.{leaves, run, endOf}
 use Rattle.rules.specs.Claims.Starred.{hex, fixed, tell, done, wrong, right, printed, asks, makes, reply, first, last}
 use Rattle.rules.specs.Claims.Lengths.{Bytes}
+use Rattle.rules.specs.Claims.Words.{checkWords, words, Tells}
 use Rattle.rules.specs.Claims.Invariants.{Plain, Sane}
 use Rattle.rules.specs.Claims.ReadBack.{tagBytesOf, tagList, putField, wordOf, Puts, Pieces, next, refused, Untouched, Ends, Answers, reading, joined, lastWord}
 use Rattle.rules.specs.Claims.ReadBack.{last as end}
@@ -40,6 +41,7 @@ use Rattle.rules.proofs.Lists.{length-splice, splice-before, splice-aft
 use Rattle.rules.proofs.Slots.{put-fits, slotBytes-length}
 use Rattle.rules.proofs.Reading.{all-bytes, call-sends}
 use Rattle.rules.proofs.Refusals.{refusals}
+use Rattle.rules.proofs.Words.{status-words}
 use Rattle.rules.proofs.Kept.{Well}
 use Rattle.rules.proofs.Invariants.{lets-granted, power-granted, After, powered-well, call-kept, invariants}
 use Rattle.rules.proofs.Secrecy.{secrecy}
@@ -362,8 +364,31 @@ wrong-work : permit (state fixed (zeros 5) (cleared false)) (powers true) ≡ De
 unfolding permit illSession shortResponse zeros
 wrong-work = off _ _ _ (ap not fixed-ok) ∙ off _ _ _ refl ∙ off _ _ _ refl ∙ on-true _ _ _ refl
 
+-- a command of three bytes, and a VERIFY
+
+short-command : check true (hex 3 0x00A404) ≡ Failed 0x6700
+unfolding book
+short-command = refl
+
+verify-head : Header
+verify-head = record { cla = 0x00; ins = 0x20; p1 = 0x00; p2 = 0x80; lc = 8; le = 256 }
+
+a-verify : check false (hex 13 0x0020008008_313233343537FFFF) ≡ Passed verify-head
+unfolding book verify-head
+a-verify = refl
+
+told-words : Tells (words 0x20) ((command (state fixed (zeros workSize) (cleared false)) (hex 13 0x0020008008_313233343537FFFF)) .told)
+unfolding verify-head
+told-words = status-words .passed (state fixed (zeros workSize) (cleared false)) (hex 13 0x0020008008_313233343537FFFF) verify-head fixed-ok a-verify
+
+told-failed : Tells checkWords ((command (before fixed) (hex 3 0x00A404)) .told)
+unfolding before
+told-failed = status-words .failed (before fixed) (hex 3 0x00A404) 0x6700 short-command .1
+
 pub instances : Holds
 instances = record {
+  failed = told-failed;
+  passed = told-words;
   refusals = refusals (state fixed (zeros 5) (cleared false)) (powers true) WrongWork wrong-work;
   invariants = sane-card;
   issued = issued-is;

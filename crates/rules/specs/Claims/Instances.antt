@@ -19,9 +19,10 @@ use Rattle.rules.specs.declared.Refusal.the-variants.{WrongWork}
 use Rattle.rules.specs.Bytes.{splice, zeros}
 use Rattle.rules.specs.Store.{workSize, putObject}
 use Rattle.rules.specs.Session.{State, state, cleared, withAdmin}
-use Rattle.rules.specs.Calls.{Call, powers, sends}
+use Rattle.rules.specs.Calls.{command, Call, powers, sends}
 use Rattle.rules.specs.Runs.{run, endOf}
 use Rattle.rules.specs.Claims.Starred.{hex, fixed, wrong, right, printed, asks, makes, reply, first, last}
+use Rattle.rules.specs.Claims.Words.{checkWords, words, Tells}
 use Rattle.rules.specs.Claims.Refusals.{Kept}
 use Rattle.rules.specs.Claims.Invariants.{Sane}
 use Rattle.rules.specs.Claims.ReadBack.{absent, byte, Ask, reading, joined, lastWord}
@@ -63,6 +64,8 @@ rest = record { resp = replicate 300 0xCC; le = absent }
 -- ---- the claim
 
 pub record Holds : Type 0 where
+  pub failed : Tells checkWords ((command (before fixed) (hex 3 0x00A404)) .told)
+  pub passed : Tells (words 0x20) ((command (state fixed (zeros workSize) (cleared false)) (hex 13 0x0020008008_313233343537FFFF)) .told)
   pub refusals : Kept (state fixed (zeros 5) (cleared false)) (powers true) WrongWork
   pub invariants : Sane (endOf (before fixed) (powers false ∷ wrong ∷ right ∷ printed ∷ []))
   pub issued : issuing ≡ endOf (before fixed) (powers false ∷ login)
