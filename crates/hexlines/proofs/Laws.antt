@@ -7,17 +7,15 @@
 -- Assumes nothing.
 use mathlib.Core.Path.{_≡_, refl, ap, ap₂, sym, _∙_}
 use mathlib.Core.List.{List, [], _∷_, _++_}
-use Prim.Native.Nat.{ℕ, _+_, _*_, _≤_, _<_, min}
+use Prim.Native.Nat.{ℕ, _+_, _*_, _≤_, _<_}
 use native.Mathlib.Omega.{arith}
 use lib.ListN.{length, take, length-append, length-take}
-use lib.Seq.{take-all}
 use Rattle.rules.specs.declared.Answer.{Answer}
 use Rattle.rules.specs.declared.Reply.{Reply}
-use Rattle.rules.specs.Bytes.{part, splice, zeros}
+use Rattle.rules.specs.Bytes.{splice, zeros}
 use Rattle.rules.specs.Session.{State}
 use Rattle.rules.specs.Calls.{Outcome, outcome, sends, call}
 use Rattle.rules.specs.Claims.Starred.{hex, fixed}
-use Rattle.rules.proofs.Tests.{by-order}
 use Rattle.rules.proofs.Lists.{join-start}
 use Rattle.octets.proofs.Laws.{length-zeros, splice-next, whole}
 use Rattle.text.specs.Text.{hexOf}
@@ -46,24 +44,16 @@ turned st resp c r s w p e a q =
 
 -- ---- a line that is printed
 
-shown-part : (s : List ℕ) (k n : ℕ) → n ≡ min k (length s) → part s 0 n ≡ take k s
-unfolding part
-shown-part s k n e =
-    by-order k (length s)
-    (λ h. let q : n ≡ k = omega arith in ap (λ (m : ℕ). take m s) q)
-    (λ h. take-all n s (omega arith) ∙ sym (take-all k s h))
+pub printed-length : (resp v : List ℕ) (k : ℕ) → v ≡ take k resp → length v ≤ length resp
+printed-length resp v k p = omega (arith, ap length p, length-take k resp)
 
-pub printed-length : (resp v : List ℕ) (k n : ℕ) → n ≡ min k (length resp) → v ≡ part resp 0 n → length v ≤ length resp
-printed-length resp v k n few p = omega (arith, ap length (p ∙ shown-part resp k n few), length-take k resp)
-
-pub print-end : (out resp v x y : List ℕ) (k n e : ℕ) → n ≡ min k (length resp) → v ≡ part resp 0 n
+pub print-end : (out resp v x y : List ℕ) (k e : ℕ) → v ≡ take k resp
     → e ≡ 0 + 2 * length v → x ≡ splice out 0 (hexOf v) → y ≡ splice x e (10 ∷ []) → 2 * length resp + 1 ≤ length out
     → (e + 1 ≡ length (hexOf (take k resp) ++ (10 ∷ []))) × (y ≡ splice out 0 (hexOf (take k resp) ++ (10 ∷ [])))
-print-end out resp v x y k n e few p q r t room =
-    let z : v ≡ take k resp = p ∙ shown-part resp k n few in
+print-end out resp v x y k e p q r t room =
     let l : e ≡ 0 + length (hexOf v) = omega (arith, length-hex v) in (
-      omega (arith, length-append (hexOf (take k resp)) (10 ∷ []), length-hex v, ap (λ (u : List ℕ). length (hexOf u)) z),
+      omega (arith, length-append (hexOf (take k resp)) (10 ∷ []), length-hex v, ap (λ (u : List ℕ). length (hexOf u)) p),
       t ∙ ap₂ {C = List ℕ} (λ (u : List ℕ) (i : ℕ). splice u i (10 ∷ [])) r l
-          ∙ splice-next out (hexOf v) (10 ∷ []) 0 (omega (arith, length-hex v, printed-length resp v k n few p))
-          ∙ ap (λ (u : List ℕ). splice out 0 (hexOf u ++ (10 ∷ []))) z,
+          ∙ splice-next out (hexOf v) (10 ∷ []) 0 (omega (arith, length-hex v, printed-length resp v k p))
+          ∙ ap (λ (u : List ℕ). splice out 0 (hexOf u ++ (10 ∷ []))) p,
     )

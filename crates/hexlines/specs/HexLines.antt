@@ -2,9 +2,7 @@
 --
 --   isCommand l           the line is a command in hex
 --   turn st resp c        the command c on the card; a job that it opens is reported as failed at once
---   badLine               what is printed for any other line
 --   printed o             what is printed for a command: response data and status word
---   Seen                  all that is seen of a line: the card after it, and the buffer with what is printed
 --   answered st resp l out    what a line comes to
 --
 -- Assumes nothing.
@@ -15,11 +13,11 @@ use lib.Dec.{ltb}
 use lib.ListN.{length, take}
 use Rattle.rules.specs.declared.Answer.{Answer}
 use Rattle.rules.specs.declared.Answer.the-variants.{PoweredOn, Response, JobOpened, Refused}
-use Rattle.rules.specs.declared.Session.{Session}
-use Rattle.rules.specs.Bytes.{iff, splice}
+use Rattle.rules.specs.Bytes.{iff}
 use Rattle.rules.specs.Session.{State, state}
 use Rattle.rules.specs.Calls.{Outcome, sends, finishes, call}
-use Rattle.text.specs.Text.{isHex, bytesOf, hexOf}
+use Rattle.text.specs.Seen.{Seen, tells}
+use Rattle.text.specs.Text.{isHex, bytesOf, hexOf, badLine}
 
 -- a line that is empty, of odd length or not hex reaches no card
 unfoldable pub isCommand : List ℕ → Bool
@@ -48,28 +46,10 @@ shown (Refused r) = 0
 unfoldable pub printed : Outcome → List ℕ
 printed o = hexOf (take (shown (o .reply .answer)) (o .resp)) ++ (10 ∷ [])
 
--- "bad line"
-abbrev pub badLine : List ℕ
-badLine = 98 ∷ 97 ∷ 100 ∷ 32 ∷ 108 ∷ 105 ∷ 110 ∷ 101 ∷ 10 ∷ []
-
 -- ---- all that is seen of a line
 
-pub record Seen : Type 0 where
-  pub session : Session
-  pub store : List ℕ
-  pub work : List ℕ
-  pub resp : List ℕ
-  pub len : ℕ
-  pub out : List ℕ
-
-abbrev pub seen : Session → List ℕ → List ℕ → List ℕ → ℕ → List ℕ → Seen
-seen ss s w resp n out = record { session = ss; store = s; work = w; resp = resp; len = n; out = out }
-
 unfoldable pub told : Outcome → List ℕ → Seen
-told o out = seen (o .reply .session) (o .store) (o .work) (o .resp) (length (printed o)) (splice out 0 (printed o))
-
-unfoldable pub refused : State → List ℕ → List ℕ → Seen
-refused st resp out = seen (st .session) (st .store) (st .work) resp 9 (splice out 0 badLine)
+told o out = tells (state (o .store) (o .work) (o .reply .session)) (o .resp) (printed o) out
 
 unfoldable pub answered : State → List ℕ → List ℕ → List ℕ → Seen
-answered st resp l out = iff (isCommand l) (told (turn st resp (bytesOf l)) out) (refused st resp out)
+answered st resp l out = iff (isCommand l) (told (turn st resp (bytesOf l)) out) (tells st resp badLine out)

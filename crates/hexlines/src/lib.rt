@@ -2,23 +2,19 @@
 use rules::Answer;
 use rules::Reply;
 use rules::Session;
+use text::Said;
 ghost use mathlib.Core.Path.{_≡_};
 ghost use mathlib.Core.List.{_++_, [], _∷_};
-ghost use Prim.Native.Nat.{_+_, _*_, _≤_, min};
+ghost use Prim.Native.Nat.{_+_, _*_, _≤_};
 ghost use lib.ListN.{length, take};
 ghost use Rattle.rules.specs.Bytes.{splice};
 ghost use Rattle.rules.specs.Session.{state};
 ghost use Rattle.rules.specs.Calls.{outcome};
 ghost use Rattle.rules.specs.Claims.Starred.{fixed};
+ghost use Rattle.text.specs.Seen.{seen};
 ghost use Rattle.text.specs.Text.{bytesOf, hexOf};
-ghost use Rattle.hexlines.specs.HexLines.{isCommand, badLine, seen, answered};
+ghost use Rattle.hexlines.specs.HexLines.{isCommand, answered};
 ghost use Rattle.hexlines.specs.HexLines.{shown as HexLines·shown, turn as HexLines·turn};
-
-// What a line leaves: the session, and the number of bytes that are to be printed.
-pub struct Said {
-    pub session: Session,
-    pub len: usize,
-}
 
 // PIN 123456, PUK 12345678, limits 3, all tries left, no keys.
 const HEAD: [u8; 32] = [
@@ -55,8 +51,6 @@ const HEAD: [u8; 32] = [
     0x00,
     0x00,
 ];
-
-const BAD_LINE: [u8; 9] = [98, 97, 100, 32, 108, 105, 110, 101, 10];
 
 pub fn fixed_card(store: &mut [u8])
     requires { ⌜ length (now store) ≡ 33400 ⌝ }
@@ -96,17 +90,12 @@ fn turn(session: Session, store: &mut [u8], work: &mut [u8], resp: &mut [u8], li
 }
 
 // How many bytes of the response buffer are printed.
-fn shown(a: Answer, most: usize) -> usize
-    ensures { λ r. ⌜ r ≡ min (HexLines·shown a) most ⌝ }
+fn shown(a: Answer) -> usize
+    ensures { λ r. ⌜ r ≡ HexLines·shown a ⌝ }
 {
     match a {
         Answer::PoweredOn => 0,
-        Answer::Response { len } => {
-            if len < most {
-                return len;
-            }
-            most
-        }
+        Answer::Response { len } => len,
         Answer::JobOpened {
             key: _,
             alg: _,
@@ -120,8 +109,7 @@ fn print(a: Answer, resp: &[u8], out: &mut [u8]) -> usize
     requires { ⌜ 2 * length (now resp) + 1 ≤ length (now out) ⌝ }
     ensures { λ r. ⌜ (r ≡ length (hexOf (take (HexLines·shown a) (now (resp .entry))) ++ (10 ∷ []))) × (now (out .exit) ≡ splice (now (out .entry)) 0 (hexOf (take (HexLines·shown a) (now (resp .entry))) ++ (10 ∷ []))) ⌝ }
 {
-    let n = shown(a, resp.len());
-    let end = text::write_hex(out, 0, octets::part(resp, 0, n));
+    let end = text::write_hex(out, 0, text::first(resp, shown(a)));
     octets::put_byte(out, end, 10);
     end + 1
 }
@@ -138,9 +126,7 @@ pub fn answer(
     ensures { λ r. ⌜ seen (r .session) (now (store .exit)) (now (work .exit)) (now (resp .exit)) (r .len) (now (out .exit)) ≡ answered (state (now (store .entry)) (now (work .entry)) session) (now (resp .entry)) (now (line .entry)) (now (out .entry)) ⌝ }
 {
     if !is_command(line) {
-        let bad = BAD_LINE;
-        octets::put(out, 0, &bad);
-        return Said { session, len: 9 };
+        return text::bad(session, out);
     }
     let r = turn(session, store, work, resp, line);
     let a = r.answer;

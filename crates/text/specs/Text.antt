@@ -7,6 +7,7 @@
 --   hexOf s               the bytes s in upper-case hex
 --   Kept                  a line of which a buffer keeps what matters: the buffer, and how much of it is the line
 --   keep s n b            the line of the first n bytes of s, with the byte b more
+--   badLine               what is printed for a line that says nothing
 --
 -- A character is its number. Assumes nothing.
 use mathlib.Core.Bool.{Bool, true, false, _&&_, _||_}
@@ -58,3 +59,9 @@ unfoldable pub keep : List ℕ → ℕ → ℕ → Kept
 keep s n b =
     iff (ltb n (length s)) (kept (n + 1) (splice s n (b ∷ [])))
     (iff (isDigit b && isDigit (getD s (n - 1) 0)) (kept (n - 1) s) (kept n (splice s 0 (0 ∷ []))))
+
+-- ---- a line that nobody understands
+
+-- "bad line", and the end of the line
+abbrev pub badLine : List ℕ
+badLine = 98 ∷ 97 ∷ 100 ∷ 32 ∷ 108 ∷ 105 ∷ 110 ∷ 101 ∷ 10 ∷ []

@@ -6,7 +6,8 @@ use Prim.Native.Nat.{ℕ}
 use denote.Ref.{now}
 use Rattle.rules.specs.Calls.{Outcome}
 use Rattle.rules.proofs.Tests.{on, off, passes, fails}
-use Rattle.hexlines.specs.HexLines.{Seen, seen, printed, told, refused, answered}
+use Rattle.text.specs.Seen.{Seen, seen}
+use Rattle.hexlines.specs.HexLines.{printed, told, answered}
 use borrow.Author.Needs.{needs}
 use Rattle.hexlines.proofs.answer.Statement.{statement}
 use Rattle.hexlines.proofs.answer.Tie as tie
@@ -14,21 +15,18 @@ use Rattle.hexlines.proofs.answer.Tie as tie
 is-command-requires : tie.Need-is-command-requires
 is-command-requires c κs = search needs
 
-slice-aggregate-put : tie.Need-slice-aggregate-put
-slice-aggregate-put c = search needs
-
-put-requires : tie.Need-put-requires
-put-requires c κs = search needs
+bad-requires : tie.Need-bad-requires
+bad-requires c κs = search needs
 
 same-length : tie.Need-same-length
 same-length c = search needs
 
 returns : tie.Need-returns
-unfolding answered refused
+unfolding answered
 returns c =
-    let a = c .before .before .before .before .before .before .before .before .before .before .before .before .args in
-    ap (seen (a .session) (now (a .store)) (now (a .work)) (now (a .resp)) 9) (c .before .before .put .ensures)
-    ∙ sym (off _ _ _ (fails (c .before .before .before .before .before .before .is-command .ensures) (c .before .before .before .before .before .if1 .taken)))
+    let a = c .before .before .before .before .before .before .before .before .before .before .before .args in
+    c .before .before .bad .ensures (now (a .store)) (now (a .work)) (now (a .resp))
+    ∙ sym (off _ _ _ (fails (c .before .before .before .before .before .is-command .ensures) (c .before .before .before .before .if1 .taken)))
 
 turn-requires : tie.Need-turn-requires
 turn-requires c κs = search needs
@@ -63,8 +61,7 @@ answer-spec =
     tie.close
     (tie.spec
     is-command-requires
-    slice-aggregate-put
-    put-requires
+    bad-requires
     same-length
     returns
     turn-requires

@@ -1,0 +1,202 @@
+// Packed: a session as 64 bytes, and back.
+use rules::Chain;
+use rules::Challenge;
+use rules::Job;
+use rules::Rest;
+use rules::Session;
+ghost use mathlib.Core.Path.{_≡_};
+ghost use Prim.Native.Nat.{_<_};
+ghost use lib.ListN.{length};
+ghost use Rattle.packed.specs.Packed.{flagAt, flagBytes, chainBytes, restBytes, challengeBytes, jobBytes, packed, chainIn, restIn, challengeIn, jobIn, unpacked, sessionIn};
+ghost use Rattle.packed.specs.Packed.{flag as Packed·flag};
+
+// The session that 64 bytes are of.
+pub enum Taken {
+    Is(Session),
+    No,
+}
+
+// ---- from a session to its bytes
+
+fn flag(b: bool) -> u8
+    ensures { λ r. ⌜ r ≡ Packed·flag b ⌝ }
+{
+    if b {
+        return 1;
+    }
+    0
+}
+
+fn flag_bytes(s: Session) -> [u8; 3]
+    ensures { λ r. ⌜ r ≡ flagBytes s ⌝ }
+{
+    [flag(s.contactless), flag(s.pin), flag(s.admin)]
+}
+
+fn chain_bytes(c: Chain) -> [u8; 6]
+    ensures { λ r. ⌜ r ≡ chainBytes c ⌝ }
+{
+    match c {
+        Chain::Shut => [0, 0, 0, 0, 0, 0],
+        Chain::Open { ins, p1, p2, len } => {
+            [1, ins, p1, p2, (len / 256 % 256) as u8, (len % 256) as u8]
+        }
+    }
+}
+
+fn rest_bytes(r: Rest) -> [u8; 5]
+    ensures { λ b. ⌜ b ≡ restBytes r ⌝ }
+{
+    match r {
+        Rest::Gone => [0, 0, 0, 0, 0],
+        Rest::Left { whole, fetched } => [
+            1,
+            (whole / 256 % 256) as u8,
+            (whole % 256) as u8,
+            (fetched / 256 % 256) as u8,
+            (fetched % 256) as u8,
+        ],
+    }
+}
+
+fn challenge_bytes(c: Challenge) -> [u8; 9]
+    ensures { λ r. ⌜ r ≡ challengeBytes c ⌝ }
+{
+    match c {
+        Challenge::Unasked => [0, 0, 0, 0, 0, 0, 0, 0, 0],
+        Challenge::Awaits { reply } => [
+            1,
+            (reply / 72057594037927936 % 256) as u8,
+            (reply / 281474976710656 % 256) as u8,
+            (reply / 1099511627776 % 256) as u8,
+            (reply / 4294967296 % 256) as u8,
+            (reply / 16777216 % 256) as u8,
+            (reply / 65536 % 256) as u8,
+            (reply / 256 % 256) as u8,
+            (reply % 256) as u8,
+        ],
+    }
+}
+
+fn job_bytes(j: Job) -> [u8; 5]
+    ensures { λ r. ⌜ r ≡ jobBytes j ⌝ }
+{
+    match j {
+        Job::Idle => [0, 0, 0, 0, 0],
+        Job::Running { key, alg, le } => { [1, key, alg, (le / 256 % 256) as u8, (le % 256) as u8] }
+    }
+}
+
+pub fn pack(dst: &mut [u8], s: Session)
+    requires { ⌜ length (now dst) ≡ 64 ⌝ }
+    ensures { λ _. ⌜ now (dst .exit) ≡ packed s ⌝ }
+{
+    let chain = s.chain;
+    let rest = s.rest;
+    let challenge = s.challenge;
+    let job = s.job;
+    let flags = flag_bytes(s);
+    octets::put(dst, 0, &flags);
+    let chain_part = chain_bytes(chain);
+    octets::put(dst, 3, &chain_part);
+    let rest_part = rest_bytes(rest);
+    octets::put(dst, 9, &rest_part);
+    let challenge_part = challenge_bytes(challenge);
+    octets::put(dst, 14, &challenge_part);
+    let job_part = job_bytes(job);
+    octets::put(dst, 23, &job_part);
+    octets::zero(dst, 28, 36);
+}
+
+// ---- and back
+
+fn flag_at(b: &[u8], at: usize) -> bool
+    requires { ⌜ at < length (now b) ⌝ }
+    ensures { λ r. ⌜ r ≡ flagAt (now (b .entry)) at ⌝ }
+{
+    b[at] != 0
+}
+
+fn chain_in(b: &[u8]) -> Chain
+    requires { ⌜ length (now b) ≡ 64 ⌝ }
+    ensures { λ r. ⌜ r ≡ chainIn (now (b .entry)) ⌝ }
+{
+    if flag_at(b, 3) {
+        return Chain::Open {
+            ins: b[4],
+            p1: b[5],
+            p2: b[6],
+            len: numbers::be16(b, 7),
+        };
+    }
+    Chain::Shut
+}
+
+fn rest_in(b: &[u8]) -> Rest
+    requires { ⌜ length (now b) ≡ 64 ⌝ }
+    ensures { λ r. ⌜ r ≡ restIn (now (b .entry)) ⌝ }
+{
+    if flag_at(b, 9) {
+        return Rest::Left {
+            whole: numbers::be16(b, 10),
+            fetched: numbers::be16(b, 12),
+        };
+    }
+    Rest::Gone
+}
+
+fn challenge_in(b: &[u8]) -> Challenge
+    requires { ⌜ length (now b) ≡ 64 ⌝ }
+    ensures { λ r. ⌜ r ≡ challengeIn (now (b .entry)) ⌝ }
+{
+    if flag_at(b, 14) {
+        return Challenge::Awaits {
+            reply: numbers::be64(b, 15),
+        };
+    }
+    Challenge::Unasked
+}
+
+fn job_in(b: &[u8]) -> Job
+    requires { ⌜ length (now b) ≡ 64 ⌝ }
+    ensures { λ r. ⌜ r ≡ jobIn (now (b .entry)) ⌝ }
+{
+    if flag_at(b, 23) {
+        return Job::Running {
+            key: b[24],
+            alg: b[25],
+            le: numbers::be16(b, 26),
+        };
+    }
+    Job::Idle
+}
+
+fn unpack(b: &[u8]) -> Session
+    requires { ⌜ length (now b) ≡ 64 ⌝ }
+    ensures { λ r. ⌜ r ≡ unpacked (now (b .entry)) ⌝ }
+{
+    Session {
+        contactless: flag_at(b, 0),
+        pin: flag_at(b, 1),
+        admin: flag_at(b, 2),
+        chain: chain_in(b),
+        rest: rest_in(b),
+        challenge: challenge_in(b),
+        job: job_in(b),
+    }
+}
+
+pub fn session_in(b: &[u8]) -> Taken
+    ensures { λ r. ⌜ r ≡ sessionIn (now (b .entry)) ⌝ }
+{
+    if b.len() != 64 {
+        return Taken::No;
+    }
+    let s = unpack(b);
+    let mut again = [0u8; 64];
+    pack(&mut again, s);
+    if !octets::same(&again, b) {
+        return Taken::No;
+    }
+    Taken::Is(s)
+}
