@@ -73,13 +73,13 @@ pub fn select(s: Session, work: &mut [u8], resp: &mut [u8], h: Header, field: &[
     ensures { λ r. ⌜ ((m : List ℕ) → outcome r m (now (work .exit)) (now (resp .exit)) ≡ (delivered (now (resp .entry)) (select (state m (now (work .entry)) s) h (now (field .entry)))) .outcome) ⌝ }
 {
     if h.p1 != 0x04 {
-        return sending::say(s, resp, 0x6A86);
+        return saying::say(s, resp, 0x6A86);
     }
     if h.p2 != 0x00 {
-        return sending::say(s, resp, 0x6A86);
+        return saying::say(s, resp, 0x6A86);
     }
     if !ours(field) {
-        return sending::say(s, resp, 0x6A82);
+        return saying::say(s, resp, 0x6A82);
     }
     let le = h.le;
     let template = TEMPLATE;
@@ -94,17 +94,17 @@ pub fn get_response(s: Session, work: &mut [u8], resp: &mut [u8], h: Header, fie
     ensures { λ r. ⌜ ((m : List ℕ) → outcome r m (now (work .exit)) (now (resp .exit)) ≡ (delivered (now (resp .entry)) (getResponse (state m (now (work .entry)) s) h (now (field .entry)))) .outcome) ⌝ }
 {
     if h.p1 != 0x00 {
-        return sending::drop_say(s, work, resp, 0x6A86);
+        return saying::drop_say(s, work, resp, 0x6A86);
     }
     if h.p2 != 0x00 {
-        return sending::drop_say(s, work, resp, 0x6A86);
+        return saying::drop_say(s, work, resp, 0x6A86);
     }
     if field.len() != 0 {
-        return sending::drop_say(s, work, resp, 0x6700);
+        return saying::drop_say(s, work, resp, 0x6700);
     }
     let rest = s.rest;
     let Rest::Left { whole, fetched } = rest else {
-        return sending::drop_say(s, work, resp, 0x6985);
+        return saying::drop_say(s, work, resp, 0x6985);
     };
     let le = h.le;
     sending::fetch(s, work, resp, le, whole, fetched)

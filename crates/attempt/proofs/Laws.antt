@@ -12,11 +12,12 @@
 --   halves, Halves x ..    the row of tests on 16 bytes that CHANGE and RESET share, and that a rule says what it says
 --   halves-refused halves-compared    its outcomes, by the word of the tests
 --   word-none word-length word-first word-last word-passed    the word of the tests
+--   refused unequal found  a rule that goes by it: refused before the comparison, found unequal, found equal
 --   first-half last-half sixteen half-length    the two halves of 16 bytes
 --
 -- Assumes nothing.
 use mathlib.Core.Path.{_≡_, refl, sym, ap, ap₂, _∙_}
-use mathlib.Core.Bool.{Bool, true, false, not, _&&_, true≢false}
+use mathlib.Core.Bool.{Bool, true, false, not, _&&_}
 use mathlib.Core.List.{List, []}
 use Prim.Native.Nat.{ℕ, _+_, _-_, _≤_}
 use native.Mathlib.Omega.{arith}
@@ -212,3 +213,23 @@ module _ (d : List ℕ) (l : length d ≡ 16) {x : List ℕ} where
   pub last-half : x ≡ part d 8 8 → x ≡ drop 8 d
   unfolding part
   last-half e = e ∙ take-all 8 (drop 8 d) (omega (arith, length-drop 8 d))
+
+-- ---- a rule that goes by the row of tests on 16 bytes
+
+module _ {x : Said} (s : List ℕ) (b : Bool) {w : Which} {f g : List ℕ → Bool} {hit : List ℕ → Said} {miss : Bool} {d : List ℕ} {n word : ℕ}
+    (o : Halves x (refsIn s b) w f g hit miss d) (len : length s ≡ 33400) (l : n ≡ the (refsIn s b) w .left)
+    (e : word ≡ halvesWord n f g d) where
+  pub refused : (word ≡ 0x9000 → ⊥) → judgement (record { sw = word; given = b }) s ≡ judgedOn s b x
+  unfolding refsIn
+  refused p = quiet b word b len (halves-refused o l e p)
+
+  module _ (p : word ≡ 0x9000) {old : List ℕ} {r : Tried} (a : old ≡ part d 0 8) (q : r ≡ triedOf (the (refsIn s b) w) old) where
+    compared : Compared x s b w old (hit (drop 8 d)) miss
+    compared = record { row = rw (first-half d (sixteen n f g d e p) a) (halves-compared o l e p) }
+
+    pub unequal : {t : List ℕ} {sw : ℕ} → t ≡ refsOnto s (stepped (refsIn s b) (charge w)) → r ≡ Unequal sw
+        → judgement (record { sw = sw; given = miss }) t ≡ judgedOn s b x
+    unequal h u = missed-by compared q h (omega arith) u
+
+    pub found : r ≡ Equal → x ≡ hit (drop 8 d)
+    found u = found-equal compared q u

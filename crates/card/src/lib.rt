@@ -48,7 +48,7 @@ fn obey(session: Session, store: &mut [u8], work: &mut [u8], resp: &mut [u8], cm
     let challenge = session.challenge;
     let s = session::with_challenge(session, Challenge::Unasked);
     match apdu::check(session.contactless, cmd) {
-        Checked::Failed(sw) => sending::drop_say(s, work, resp, sw),
+        Checked::Failed(sw) => saying::drop_say(s, work, resp, sw),
         Checked::Passed(h) => {
             commands::rule(challenge, s, store, work, resp, h, apdu::field(cmd, h))
         }

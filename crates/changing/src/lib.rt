@@ -1,5 +1,5 @@
-// CHANGE REFERENCE DATA and RESET RETRY COUNTER (01, under these names): an old value and a new one, in one field. Each function mirrors
-// its rule line by line, and makes the steps of its rule in their order: charge, compare, new value, restore.
+// CHANGE REFERENCE DATA (01, under this name): the old value and the new one, in one field. Each function mirrors its rule line by line, and makes
+// the steps of its rule in their order: charge, compare, new value, restore.
 use attempt::Form;
 use attempt::Tried;
 use rules::Header;
@@ -9,9 +9,7 @@ ghost use mathlib.Core.Bool.{true, false};
 ghost use lib.ListN.{length};
 ghost use Rattle.rules.specs.Reference.{pinForm, pukForm};
 ghost use Rattle.rules.specs.Command.{thePin, thePuk};
-ghost use Rattle.rules.specs.Pin.{changeOf, change, resetGiven, reset, refsIn, judgement, judgedOn};
-
-// ---- CHANGE REFERENCE DATA
+ghost use Rattle.rules.specs.Pin.{changeOf, change, refsIn, judgement, judgedOn};
 
 // P2 80: the old PIN and the new one.
 fn change_pin(store: &mut [u8], given: bool, field: &[u8]) -> Judged
@@ -66,38 +64,4 @@ pub fn change(store: &mut [u8], given: bool, h: Header, field: &[u8]) -> Judged
         return Judged { sw: 0x6A81, given };
     }
     change_puk(store, given, field)
-}
-
-// ---- RESET RETRY COUNTER
-
-// The PUK and a new PIN. The PIN status is not restored.
-fn reset_given(store: &mut [u8], given: bool, field: &[u8]) -> Judged
-    requires { ⌜ length (now store) ≡ 33400 ⌝ }
-    ensures { λ r. ⌜ judgement r (now (store .exit)) ≡ judgedOn (now (store .entry)) given (resetGiven (refsIn (now (store .entry)) given) (now (field .entry))) ⌝ }
-{
-    let tries = tries::puk_left(store);
-    let word = attempt::halves(tries.0, Form::OfPuk, Form::OfPin, field);
-    if word != 0x9000 {
-        return Judged { sw: word, given };
-    }
-    if let Tried::Unequal(sw) = attempt::try_puk(store, tries, octets::part(field, 0, 8)) {
-        return Judged { sw, given: false };
-    }
-    values::new_pin(store, octets::part(field, 8, 8));
-    tries::restore_pin(store);
-    tries::restore_puk(store);
-    Judged { sw: 0x9000, given }
-}
-
-pub fn reset(store: &mut [u8], given: bool, h: Header, field: &[u8]) -> Judged
-    requires { ⌜ length (now store) ≡ 33400 ⌝ }
-    ensures { λ r. ⌜ judgement r (now (store .exit)) ≡ judgedOn (now (store .entry)) given (reset (refsIn (now (store .entry)) given) h (now (field .entry))) ⌝ }
-{
-    if h.p1 != 0x00 {
-        return Judged { sw: 0x6A86, given };
-    }
-    if h.p2 != 0x80 {
-        return Judged { sw: 0x6A81, given };
-    }
-    reset_given(store, given, field)
 }

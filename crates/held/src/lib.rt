@@ -8,17 +8,36 @@ ghost use mathlib.Core.Path.{_≡_};
 ghost use mathlib.Core.List.{List};
 ghost use Prim.Native.Nat.{ℕ, _+_, _≤_};
 ghost use lib.ListN.{length};
-ghost use Rattle.rules.specs.Session.{state, chainLength, heldLength};
+ghost use Rattle.rules.specs.Session.{state, chainLength, wholeLength, heldLength};
 ghost use Rattle.rules.specs.Held.{dropped, goesOn, based, heldPiece};
 
 // ---- dropping
+
+fn whole_length(r: Rest) -> usize
+    ensures { λ n. ⌜ n ≡ wholeLength r ⌝ }
+{
+    match r {
+        Rest::Gone => 0,
+        Rest::Left { whole, fetched: _ } => whole,
+    }
+}
+
+// The number of bytes that the work area holds.
+fn held_length(s: Session) -> usize
+    requires { ⌜ heldLength s ≤ 13321 ⌝ }
+    ensures { λ r. ⌜ r ≡ heldLength s ⌝ }
+{
+    let chain = s.chain;
+    let rest = s.rest;
+    session::chain_length(chain) + whole_length(rest)
+}
 
 // Chain and rest are dropped: the bytes held become zero.
 pub fn drop_held(s: Session, work: &mut [u8]) -> Session
     requires { ⌜ (heldLength s ≤ 13321) × (length (now work) ≡ 13321) ⌝ }
     ensures { λ r. ⌜ ((m : List ℕ) → state m (now (work .exit)) r ≡ dropped (state m (now (work .entry)) s)) ⌝ }
 {
-    let n = session::held_length(s);
+    let n = held_length(s);
     octets::zero(work, 0, n);
     session::holding(s, Chain::Shut, Rest::Gone)
 }

@@ -23,8 +23,8 @@ fn heads(dst: &mut [u8], tag: u8, n: usize) -> usize
     ensures { λ r. ⌜ (r ≤ 8) × ((v : List ℕ) → length v ≡ n → take r (now (dst .exit)) ++ v ≡ tlv 0x7C (tlv tag v)) ⌝ }
 {
     let inner = 1 + ber::length_bytes(n) + n;
-    let at = ber::write_head(dst, 0, 0x7C, inner);
-    ber::write_head(dst, at, tag, n)
+    let at = heads::write_head(dst, 0, 0x7C, inner);
+    heads::write_head(dst, at, tag, n)
 }
 
 fn give(s: Session, work: &mut [u8], resp: &mut [u8], le: usize, tag: u8, v: &[u8]) -> Reply
@@ -55,11 +55,11 @@ pub fn finish(s: Session, work: &mut [u8], resp: &mut [u8], failed: bool, result
 {
     let job = s.job;
     let Job::Running { key, alg: _, le } = job else {
-        return sending::say(s, resp, 0x6F00);
+        return saying::say(s, resp, 0x6F00);
     };
     let t = session::with_job(s, Job::Idle);
     if failed {
-        return sending::say(t, resp, 0x6F00);
+        return saying::say(t, resp, 0x6F00);
     }
     if key == 0x9B {
         return challenged(t, work, resp, le, result);

@@ -76,11 +76,11 @@ fn piece(
     let chain = s.chain;
     let sw = keyuse::each(s, store, h, session::chain_length(chain) + field.len());
     if sw != 0x9000 {
-        return sending::drop_say(s, work, resp, sw);
+        return saying::drop_say(s, work, resp, sw);
     }
     if h.cla == 0x10 {
         let t = held::hold_piece(s, work, h, field);
-        return sending::say(t, resp, 0x9000);
+        return saying::say(t, resp, 0x9000);
     }
     last(ch, s, work, resp, h, field)
 }

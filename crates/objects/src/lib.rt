@@ -59,10 +59,10 @@ fn give_object(
     ensures { λ r. ⌜ ((m : List ℕ) → outcome r m (now (work .exit)) (now (resp .exit)) ≡ (delivered (now (resp .entry)) (giveObject (state m (now (work .entry)) s) le slot (now (v .entry)))) .outcome) ⌝ }
 {
     if v.len() == 0 {
-        return sending::say(s, resp, 0x6A82);
+        return saying::say(s, resp, 0x6A82);
     }
     let mut head = [0u8; 4];
-    let n = ber::write_head(&mut head, 0, object_tag(slot), v.len());
+    let n = heads::write_head(&mut head, 0, object_tag(slot), v.len());
     sending::send(s, work, resp, le, &head[..n], v)
 }
 
@@ -79,10 +79,10 @@ fn get_slot(
     ensures { λ r. ⌜ outcome r (now (store .entry)) (now (work .exit)) (now (resp .exit)) ≡ (delivered (now (resp .entry)) (getSlot (state (now (store .entry)) (now (work .entry)) s) le slot)) .outcome ⌝ }
 {
     if 12 <= slot {
-        return sending::say(s, resp, 0x6A82);
+        return saying::say(s, resp, 0x6A82);
     }
     if !table::readable(s, slot) {
-        return sending::say(s, resp, 0x6982);
+        return saying::say(s, resp, 0x6982);
     }
     give_object(s, work, resp, le, slot, store::object(store, slot))
 }
@@ -99,13 +99,13 @@ pub fn get_data(
     ensures { λ r. ⌜ outcome r (now (store .entry)) (now (work .exit)) (now (resp .exit)) ≡ (delivered (now (resp .entry)) (getData (state (now (store .entry)) (now (work .entry)) s) h (now (field .entry)))) .outcome ⌝ }
 {
     if h.p1 != 0x3F {
-        return sending::say(s, resp, 0x6A86);
+        return saying::say(s, resp, 0x6A86);
     }
     if h.p2 != 0xFF {
-        return sending::say(s, resp, 0x6A86);
+        return saying::say(s, resp, 0x6A86);
     }
     let Asked::Slot(slot) = asked_in(field) else {
-        return sending::say(s, resp, 0x6A80);
+        return saying::say(s, resp, 0x6A80);
     };
     let le = h.le;
     get_slot(s, store, work, resp, le, slot)

@@ -29,7 +29,7 @@ fn judge(store: &mut [u8], given: bool, h: Header, field: &[u8]) -> Judged
     if ins == 0x24 {
         return changing::change(store, given, h, field);
     }
-    changing::reset(store, given, h, field)
+    resetting::reset(store, given, h, field)
 }
 
 // What is held is dropped, and the word goes out.
@@ -39,7 +39,7 @@ fn judged(s: Session, work: &mut [u8], resp: &mut [u8], j: Judged) -> Reply
 {
     let t = held::drop_held(s, work);
     let given = j.given;
-    sending::say(session::with_pin(t, given), resp, j.sw)
+    saying::say(session::with_pin(t, given), resp, j.sw)
 }
 
 // The steps on the store come before any byte of the work area is zeroed.

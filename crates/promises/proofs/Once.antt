@@ -48,7 +48,7 @@ use Rattle.numbers.proofs.be24.Reads as numbers-be24
 use Rattle.numbers.proofs.be64.Reads as numbers-be64
 use Rattle.ber.proofs.length_bytes.Reads as ber-length-bytes
 use Rattle.ber.proofs.read_object.Reads as ber-read-object
-use Rattle.ber.proofs.write_head.Reads as ber-write-head
+use Rattle.heads.proofs.write_head.Reads as heads-write-head
 use Rattle.reader.proofs.first.Reads as reader-first
 use Rattle.reader.proofs.only.Reads as reader-only
 use Rattle.reader.proofs.last.Reads as reader-last
@@ -59,7 +59,6 @@ use Rattle.session.proofs.holding.Reads as session-holding
 use Rattle.session.proofs.with_challenge.Reads as session-with-challenge
 use Rattle.session.proofs.with_job.Reads as session-with-job
 use Rattle.session.proofs.chain_length.Reads as session-chain-length
-use Rattle.session.proofs.held_length.Reads as session-held-length
 use Rattle.session.proofs.running.Reads as session-running
 use Rattle.possible.proofs.possible.Reads as possible-possible
 use Rattle.permit.proofs.power_on.Reads as permit-power-on
@@ -94,7 +93,7 @@ use Rattle.attempt.proofs.try_pin.Reads as attempt-try-pin
 use Rattle.attempt.proofs.try_puk.Reads as attempt-try-puk
 use Rattle.verifying.proofs.verify.Reads as verifying-verify
 use Rattle.changing.proofs.change.Reads as changing-change
-use Rattle.changing.proofs.reset.Reads as changing-reset
+use Rattle.resetting.proofs.reset.Reads as resetting-reset
 use Rattle.pin.proofs.command.Reads as pin-command
 use Rattle.wellformed.proofs.well_formed.Reads as wellformed-well-formed
 use Rattle.store.proofs.algorithm.Reads as store-algorithm
@@ -103,8 +102,8 @@ use Rattle.store.proofs.put_object.Reads as store-put-object
 use Rattle.held.proofs.drop_held.Reads as held-drop-held
 use Rattle.held.proofs.based.Reads as held-based
 use Rattle.held.proofs.hold_piece.Reads as held-hold-piece
-use Rattle.sending.proofs.say.Reads as sending-say
-use Rattle.sending.proofs.drop_say.Reads as sending-drop-say
+use Rattle.saying.proofs.say.Reads as saying-say
+use Rattle.saying.proofs.drop_say.Reads as saying-drop-say
 use Rattle.sending.proofs.send.Reads as sending-send
 use Rattle.sending.proofs.fetch.Reads as sending-fetch
 use Rattle.apdu.proofs.check.Reads as apdu-check
@@ -185,8 +184,8 @@ once-ber-length-bytes κs a r q s t = alike r q
 once-ber-read-object : (κs : _) (a : _) (r q : Found) (s t : _) → ber-read-object.Post κs a r s → ber-read-object.Post κs a q t → r ≡ q
 once-ber-read-object κs a r q s t = alike r q
 
-once-ber-write-head : (κs : _) (a : _) (r q : ℕ) (s t : _) → ber-write-head.Post κs a r s → ber-write-head.Post κs a q t → (r ≡ q) × (now (s .0) ≡ now (t .0))
-once-ber-write-head κs a r q s t x y = (alike r q (x .0) (y .0), alike _ _ (x .1) (y .1))
+once-heads-write-head : (κs : _) (a : _) (r q : ℕ) (s t : _) → heads-write-head.Post κs a r s → heads-write-head.Post κs a q t → (r ≡ q) × (now (s .0) ≡ now (t .0))
+once-heads-write-head κs a r q s t x y = (alike r q (x .0) (y .0), alike _ _ (x .1) (y .1))
 
 -- ---- reader
 
@@ -221,9 +220,6 @@ once-session-with-job κs a r q s t = alike r q
 
 once-session-chain-length : (κs : _) (a : _) (r q : ℕ) (s t : _) → session-chain-length.Post κs a r s → session-chain-length.Post κs a q t → r ≡ q
 once-session-chain-length κs a r q s t = alike r q
-
-once-session-held-length : (κs : _) (a : _) (r q : ℕ) (s t : _) → session-held-length.Post κs a r s → session-held-length.Post κs a q t → r ≡ q
-once-session-held-length κs a r q s t = alike r q
 
 once-session-running : (κs : _) (a : _) (r q : Bool) (s t : _) → session-running.Post κs a r s → session-running.Post κs a q t → r ≡ q
 once-session-running κs a r q s t = alike r q
@@ -371,8 +367,8 @@ once-verifying-verify κs a r q s t x y = by-judgement x y
 once-changing-change : (κs : _) (a : _) (r q : Judged) (s t : _) → changing-change.Post κs a r s → changing-change.Post κs a q t → (r ≡ q) × (now (s .0) ≡ now (t .0))
 once-changing-change κs a r q s t x y = by-judgement x y
 
-once-changing-reset : (κs : _) (a : _) (r q : Judged) (s t : _) → changing-reset.Post κs a r s → changing-reset.Post κs a q t → (r ≡ q) × (now (s .0) ≡ now (t .0))
-once-changing-reset κs a r q s t x y = by-judgement x y
+once-resetting-reset : (κs : _) (a : _) (r q : Judged) (s t : _) → resetting-reset.Post κs a r s → resetting-reset.Post κs a q t → (r ≡ q) × (now (s .0) ≡ now (t .0))
+once-resetting-reset κs a r q s t x y = by-judgement x y
 
 -- ---- pin
 
@@ -408,11 +404,11 @@ once-held-hold-piece κs a r q s t x y = by-state (x []) (y [])
 
 -- ---- sending
 
-once-sending-say : (κs : _) (a : _) (r q : Reply) (s t : _) → sending-say.Post κs a r s → sending-say.Post κs a q t → (r ≡ q) × (now (s .1 .0) ≡ now (t .1 .0))
-once-sending-say κs a r q s t x y = let e = by-outcome (x [] []) (y [] []) in (e .0, e .3)
+once-saying-say : (κs : _) (a : _) (r q : Reply) (s t : _) → saying-say.Post κs a r s → saying-say.Post κs a q t → (r ≡ q) × (now (s .1 .0) ≡ now (t .1 .0))
+once-saying-say κs a r q s t x y = let e = by-outcome (x [] []) (y [] []) in (e .0, e .3)
 
-once-sending-drop-say : (κs : _) (a : _) (r q : Reply) (s t : _) → sending-drop-say.Post κs a r s → sending-drop-say.Post κs a q t → (r ≡ q) × (now (s .1 .0) ≡ now (t .1 .0)) × (now (s .1 .1 .0) ≡ now (t .1 .1 .0))
-once-sending-drop-say κs a r q s t x y = let e = by-outcome (x []) (y []) in (e .0, e .2, e .3)
+once-saying-drop-say : (κs : _) (a : _) (r q : Reply) (s t : _) → saying-drop-say.Post κs a r s → saying-drop-say.Post κs a q t → (r ≡ q) × (now (s .1 .0) ≡ now (t .1 .0)) × (now (s .1 .1 .0) ≡ now (t .1 .1 .0))
+once-saying-drop-say κs a r q s t x y = let e = by-outcome (x []) (y []) in (e .0, e .2, e .3)
 
 once-sending-send : (κs : _) (a : _) (r q : Reply) (s t : _) → sending-send.Post κs a r s → sending-send.Post κs a q t → (r ≡ q) × (now (s .1 .0) ≡ now (t .1 .0)) × (now (s .1 .1 .0) ≡ now (t .1 .1 .0))
 once-sending-send κs a r q s t x y = let e = by-outcome (x []) (y []) in (e .0, e .2, e .3)

@@ -48,7 +48,7 @@ fn put_chain(
     octets::put(work, len, field);
     let sw = storing::put_whole(store, octets::part(work, 0, n));
     octets::zero(work, 0, n);
-    sending::say(s, resp, sw)
+    saying::say(s, resp, sw)
 }
 
 fn put_piece(
@@ -66,11 +66,11 @@ fn put_piece(
     let n = session::chain_length(chain) + field.len();
     let sw = put_each(s.admin, h, n);
     if sw != 0x9000 {
-        return sending::drop_say(s, work, resp, sw);
+        return saying::drop_say(s, work, resp, sw);
     }
     if h.cla == 0x10 {
         let t = held::hold_piece(s, work, h, field);
-        return sending::say(t, resp, 0x9000);
+        return saying::say(t, resp, 0x9000);
     }
     let t = session::holding(s, Chain::Shut, Rest::Gone);
     let Chain::Open {
@@ -81,7 +81,7 @@ fn put_piece(
     } = chain
     else {
         let whole = storing::put_whole(store, field);
-        return sending::say(t, resp, whole);
+        return saying::say(t, resp, whole);
     };
     put_chain(t, store, work, resp, len, field)
 }

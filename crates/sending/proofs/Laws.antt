@@ -1,8 +1,5 @@
--- Laws: what an answer that goes out comes to, part by part.
+-- Laws: what a data answer that goes out comes to, part by part.
 --
---   same-outcome           an outcome is given by its parts
---   delivers               a rule that comes to x is seen to do what x is
---   length-of-part         the length of a stretch that was read
 --   all-sent part-sent     an answer that fits Le, and one that does not
 --   part-fetched           more of a held response
 --
@@ -14,29 +11,17 @@ use native.Mathlib.Omega.{arith}
 use lib.ListN.{length, take, length-append}
 use lib.Seq.{length-take-le}
 use borrow.Author.Tests.{le-leb, lt-leb}
-use Rattle.rules.specs.declared.Answer.{Answer}
 use Rattle.rules.specs.declared.Answer.the-variants.{Response}
 use Rattle.rules.specs.declared.Chain.the-variants.{Shut}
 use Rattle.rules.specs.declared.Rest.the-variants.{Left}
 use Rattle.rules.specs.declared.Session.{Session}
-use Rattle.rules.specs.declared.Reply.{Reply}
 use Rattle.rules.specs.Bytes.{part, splice, word}
 use Rattle.rules.specs.Session.{state, holding}
-use Rattle.rules.specs.Command.{Made}
 use Rattle.rules.specs.Held.{leftWord, send, fetch}
 use Rattle.rules.specs.Calls.{outcome, reply, delivered, toldBytes, toldAnswer}
 use Rattle.rules.proofs.Tests.{on, off}
 use Rattle.rules.proofs.Lists.{length-part}
-
-pub same-outcome : (r : Reply) (a : Answer) (ss : Session) (m : List ℕ) {w w′ b b′ : List ℕ}
-    → r .answer ≡ a → r .session ≡ ss → w ≡ w′ → b ≡ b′ → outcome r m w b ≡ outcome (reply a ss) m w′ b′
-same-outcome r a ss m p q u v = λ i. outcome (record { answer = p i; session = q i }) m (u i) (v i)
-
-pub delivers : (resp : List ℕ) {x y : Made} → y ≡ x → (delivered resp x) .outcome ≡ (delivered resp y) .outcome
-delivers resp e = sym (ap (λ (z : Made). (delivered resp z) .outcome) e)
-
-pub length-of-part : (v s : List ℕ) (from n : ℕ) → v ≡ part s from n → from + n ≤ length s → length v ≡ n
-length-of-part v s from n e h = ap length e ∙ length-part s from n h
+use Rattle.saying.proofs.Laws.{delivers}
 
 module _ (s : Session) (m w resp h b : List ℕ) (le : ℕ) where
   sum : length (h ++ b) ≡ length h + length b

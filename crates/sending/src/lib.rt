@@ -1,4 +1,4 @@
-// Answers as they go out: a status word, data that fit Le, and data that do not, of which the whole is held
+// Data answers as they go out: those that fit Le, and those that do not, of which the whole is held
 // (01, "From bytes to a command", "GET RESPONSE"). A function that is not lent a buffer promises for every buffer.
 use rules::Answer;
 use rules::Chain;
@@ -12,30 +12,9 @@ ghost use lib.ListN.{length};
 ghost use Rattle.rules.specs.declared.Rest.the-variants.{Left};
 ghost use Rattle.rules.specs.Bytes.{part, splice, word};
 ghost use Rattle.rules.specs.Session.{state, heldLength};
-ghost use Rattle.rules.specs.Command.{responds, tells, says};
+ghost use Rattle.rules.specs.Command.{responds, tells};
 ghost use Rattle.rules.specs.Held.{dropped, leftWord, send, fetch};
 ghost use Rattle.rules.specs.Calls.{outcome, delivered};
-
-// A status word alone.
-pub fn say(s: Session, resp: &mut [u8], sw: u16) -> Reply
-    requires { ⌜ 258 ≤ length (now resp) ⌝ }
-    ensures { λ r. ⌜ ((m w : List ℕ) → outcome r m w (now (resp .exit)) ≡ (delivered (now (resp .entry)) (says (state m w s) sw)) .outcome) ⌝ }
-{
-    octets::put_word(resp, 0, sw);
-    Reply {
-        answer: Answer::Response { len: 2 },
-        session: s,
-    }
-}
-
-// What is held is dropped, and a status word goes out.
-pub fn drop_say(s: Session, work: &mut [u8], resp: &mut [u8], sw: u16) -> Reply
-    requires { ⌜ (258 ≤ length (now resp)) × (heldLength s ≤ 13321) × (length (now work) ≡ 13321) ⌝ }
-    ensures { λ r. ⌜ ((m : List ℕ) → outcome r m (now (work .exit)) (now (resp .exit)) ≡ (delivered (now (resp .entry)) (says (dropped (state m (now (work .entry)) s)) sw)) .outcome) ⌝ }
-{
-    let t = held::drop_held(s, work);
-    say(t, resp, sw)
-}
 
 // 61 and the number of bytes left, 00 if 256 or more.
 fn left_word(n: usize) -> u16

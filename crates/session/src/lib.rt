@@ -5,8 +5,7 @@ use rules::Job;
 use rules::Rest;
 use rules::Session;
 ghost use mathlib.Core.Path.{_≡_};
-ghost use Prim.Native.Nat.{_≤_};
-ghost use Rattle.rules.specs.Session.{cleared, withPin, withAdmin, holding, withChallenge, withJob, chainLength, wholeLength, heldLength, running};
+ghost use Rattle.rules.specs.Session.{cleared, withPin, withAdmin, holding, withChallenge, withJob, chainLength, running};
 
 // ---- setters
 
@@ -105,25 +104,6 @@ pub fn chain_length(c: Chain) -> usize
             len,
         } => len,
     }
-}
-
-fn whole_length(r: Rest) -> usize
-    ensures { λ n. ⌜ n ≡ wholeLength r ⌝ }
-{
-    match r {
-        Rest::Gone => 0,
-        Rest::Left { whole, fetched: _ } => whole,
-    }
-}
-
-// The number of bytes that the work area holds.
-pub fn held_length(s: Session) -> usize
-    requires { ⌜ heldLength s ≤ 13321 ⌝ }
-    ensures { λ r. ⌜ r ≡ heldLength s ⌝ }
-{
-    let chain = s.chain;
-    let rest = s.rest;
-    chain_length(chain) + whole_length(rest)
 }
 
 pub fn running(j: Job) -> bool

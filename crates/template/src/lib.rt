@@ -21,12 +21,12 @@ fn replied(ch: Challenge, s: Session, resp: &mut [u8], reply: u64) -> Reply
     ensures { λ r. ⌜ ((m w : List ℕ) → outcome r m w (now (resp .exit)) ≡ (delivered (now (resp .entry)) (replied (state m w s) ch reply)) .outcome) ⌝ }
 {
     let Challenge::Awaits { reply: expected } = ch else {
-        return sending::say(s, resp, 0x6985);
+        return saying::say(s, resp, 0x6985);
     };
     if expected == reply {
-        return sending::say(session::with_admin(s, true), resp, 0x9000);
+        return saying::say(session::with_admin(s, true), resp, 0x9000);
     }
-    sending::say(session::with_admin(s, false), resp, 0x6982)
+    saying::say(session::with_admin(s, false), resp, 0x6982)
 }
 
 // A job is opened: the host finds its data in the response buffer.
@@ -53,7 +53,7 @@ fn auth_admin(ch: Challenge, s: Session, resp: &mut [u8], le: usize, t: &[u8]) -
     match forms::admin_form(t) {
         Admin::GiveChallenge => return opened(s, resp, 0x9B, 0x00, le, octets::part(t, 0, 0)),
         Admin::Reply { from } => return replied(ch, s, resp, numbers::be64(t, from)),
-        Admin::NoForm => return sending::say(s, resp, 0x6A80),
+        Admin::NoForm => return saying::say(s, resp, 0x6A80),
     }
 }
 
@@ -62,7 +62,7 @@ fn auth_key(s: Session, resp: &mut [u8], h: Header, t: &[u8]) -> Reply
     ensures { λ r. ⌜ ((m w : List ℕ) → outcome r m w (now (resp .exit)) ≡ (delivered (now (resp .entry)) (authKey (state m w s) h (now (t .entry)) (keyForm (h .p2) (h .p1) (now (t .entry))))) .outcome) ⌝ }
 {
     let Found::Value { from, len } = forms::key_form(h.p2, h.p1, t) else {
-        return sending::say(s, resp, 0x6A80);
+        return saying::say(s, resp, 0x6A80);
     };
     opened(s, resp, h.p2, h.p1, h.le, octets::part(t, from, len))
 }
@@ -83,7 +83,7 @@ pub fn whole(ch: Challenge, s: Session, resp: &mut [u8], h: Header, d: &[u8]) ->
     ensures { λ r. ⌜ ((m w : List ℕ) → outcome r m w (now (resp .exit)) ≡ (delivered (now (resp .entry)) (authWhole ch h (state m w s) (now (d .entry)))) .outcome) ⌝ }
 {
     let Found::Value { from, len } = reader::only(d, 0x7C) else {
-        return sending::say(s, resp, 0x6A80);
+        return saying::say(s, resp, 0x6A80);
     };
     auth_in(ch, s, resp, h, octets::part(d, from, len))
 }

@@ -3,7 +3,7 @@
 use mathlib.Core.Path.{_∙_}
 use native.Mathlib.Omega.{arith}
 use Rattle.rules.specs.Session.{state}
-use Rattle.sending.proofs.Laws.{delivers}
+use Rattle.saying.proofs.Laws.{delivers}
 use Rattle.answers.proofs.Laws.{response-p1, response-p2, response-data, response-none, response-some, rest-fits}
 use borrow.Author.Needs.{needs}
 use Rattle.answers.proofs.get_response.Statement.{statement}

@@ -7,7 +7,7 @@ use Rattle.rules.specs.Ber.{bits, lengthBytes, lengthForm, berLength, tlv}
 use Rattle.rules.specs.Session.{state}
 use Rattle.rules.specs.Objects.{template}
 use Rattle.rules.proofs.Tests.{negated}
-use Rattle.sending.proofs.Laws.{delivers}
+use Rattle.saying.proofs.Laws.{delivers}
 use Rattle.answers.proofs.Laws.{select-p1, select-p2, select-aid, select-ok}
 use borrow.Author.Needs.{needs}
 use Rattle.answers.proofs.select.Statement.{statement}

@@ -10,7 +10,7 @@ use Rattle.rules.specs.Session.{state}
 use Rattle.rules.specs.Command.{says}
 use Rattle.rules.specs.Held.{dropped}
 use Rattle.rules.specs.Calls.{outcome, delivered, ruled}
-use Rattle.sending.proofs.Laws.{delivers}
+use Rattle.saying.proofs.Laws.{delivers}
 use Rattle.card.proofs.Laws.{calm-held, obeyed-failed, obeyed-passed, field-few}
 use borrow.Author.Needs.{needs}
 use Rattle.card.proofs.obey.Statement.{statement}

@@ -10,8 +10,8 @@ use lib.ListN.{length}
 use Rattle.rules.specs.Reference.{pukForm}
 use Rattle.rules.specs.Command.{thePuk, charge, restore, newValue}
 use Rattle.rules.specs.Pin.{the, refsIn, changed, changeOf}
-use Rattle.attempt.proofs.Laws.{no-step, next-step, sixteen, half-length, last-half, Halves}
-use Rattle.changing.proofs.Laws.{change-is, refused, unequal, found, changed-by}
+use Rattle.attempt.proofs.Laws.{no-step, next-step, sixteen, half-length, last-half, Halves, refused, unequal, found}
+use Rattle.changing.proofs.Laws.{change-is, changed-by}
 use Rattle.changing.proofs.change_puk.Statement.{statement}
 use Rattle.changing.proofs.change_puk.Tie as tie
 

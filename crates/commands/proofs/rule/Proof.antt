@@ -4,7 +4,7 @@ use mathlib.Core.Path.{_∙_}
 use native.Mathlib.Omega.{arith}
 use Rattle.rules.specs.Session.{state}
 use Rattle.rules.proofs.WellFormed.{wf-size}
-use Rattle.sending.proofs.Laws.{delivers}
+use Rattle.saying.proofs.Laws.{delivers}
 use Rattle.commands.proofs.Laws.{ruled-select, ruled-data, ruled-response, ruled-verify, ruled-change, ruled-reset, ruled-auth, ruled-put}
 use borrow.Author.Needs.{needs}
 use Rattle.commands.proofs.rule.Statement.{statement}

@@ -12,7 +12,7 @@ use Rattle.rules.specs.Session.{state, withChallenge}
 use Rattle.rules.specs.Held.{send}
 use Rattle.rules.specs.Keys.{challenged}
 use Rattle.rules.specs.Calls.{delivered, outcome}
-use Rattle.sending.proofs.Laws.{length-of-part}
+use Rattle.saying.proofs.Laws.{length-of-part}
 use borrow.Author.Needs.{needs}
 use Rattle.jobs.proofs.challenged.Statement.{statement}
 use Rattle.jobs.proofs.challenged.Tie as tie

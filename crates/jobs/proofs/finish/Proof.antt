@@ -3,7 +3,7 @@
 use mathlib.Core.Path.{_∙_}
 use native.Mathlib.Omega.{arith}
 use Rattle.rules.specs.Session.{state}
-use Rattle.sending.proofs.Laws.{delivers}
+use Rattle.saying.proofs.Laws.{delivers}
 use Rattle.jobs.proofs.Laws.{le-small, fits-short, fits-sixteen, done-none, done-failed, done-challenge, done-result}
 use borrow.Author.Needs.{needs}
 use Rattle.jobs.proofs.finish.Statement.{statement}

@@ -6,7 +6,7 @@ use Prim.Native.Nat.{ℕ, _+_}
 use Rattle.rules.specs.Ber.{lengthBytes, berLength}
 use Rattle.rules.specs.Bytes.{splice}
 use mathlib.Core.List.{_∷_}
-use Rattle.ber.proofs.Laws.{one-to-three}
+use Rattle.heads.proofs.Laws.{one-to-three}
 use Rattle.jobs.proofs.Laws.{two-heads}
 use borrow.Author.Needs.{needs}
 use Rattle.jobs.proofs.heads.Statement.{statement}

@@ -3,7 +3,7 @@
 use mathlib.Core.Path.{ap, _∙_}
 use native.Mathlib.Omega.{arith}
 use Rattle.rules.specs.Session.{chainLength}
-use Rattle.sending.proofs.Laws.{delivers}
+use Rattle.saying.proofs.Laws.{delivers}
 use Rattle.keys.proofs.Laws.{last-open, last-shut}
 use borrow.Author.Needs.{needs}
 use Rattle.keys.proofs.last.Statement.{statement}

@@ -5,7 +5,7 @@ use native.Mathlib.Omega.{arith}
 use Rattle.rules.specs.Session.{State, state}
 use Rattle.rules.specs.Command.{says}
 use Rattle.rules.specs.Calls.{delivered, outcome}
-use Rattle.sending.proofs.Laws.{delivers}
+use Rattle.saying.proofs.Laws.{delivers}
 use Rattle.keys.proofs.Laws.{piece-total, piece-refused, piece-held, piece-whole}
 use borrow.Author.Needs.{needs}
 use Rattle.keys.proofs.piece.Statement.{statement}

@@ -2,7 +2,7 @@
 -- Assumes nothing.
 use mathlib.Core.Path.{sym, _∙_}
 use Rattle.rules.specs.Session.{state}
-use Rattle.sending.proofs.Laws.{delivers}
+use Rattle.saying.proofs.Laws.{delivers}
 use Rattle.objects.proofs.Laws.{data-p1, data-p2, data-form, data-slot}
 use borrow.Author.Needs.{needs}
 use Rattle.objects.proofs.get_data.Statement.{statement}

@@ -8,7 +8,7 @@ use Rattle.rules.specs.Session.{state}
 use Rattle.rules.specs.Objects.{giveObject}
 use Rattle.rules.specs.Calls.{delivered, outcome}
 use Rattle.rules.proofs.Tests.{negated}
-use Rattle.sending.proofs.Laws.{delivers}
+use Rattle.saying.proofs.Laws.{delivers}
 use Rattle.objects.proofs.Laws.{slot-unknown, slot-barred, slot-given, object-short}
 use borrow.Author.Needs.{needs}
 use Rattle.objects.proofs.get_slot.Statement.{statement}

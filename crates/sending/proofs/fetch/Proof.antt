@@ -12,7 +12,8 @@ use Rattle.rules.specs.Session.{holding}
 use Rattle.rules.specs.Held.{fetch}
 use Rattle.rules.specs.Calls.{outcome, delivered}
 use Rattle.rules.proofs.Tests.{on}
-use Rattle.sending.proofs.Laws.{delivers, same-outcome, length-of-part, part-fetched}
+use Rattle.saying.proofs.Laws.{delivers, same-outcome, length-of-part}
+use Rattle.sending.proofs.Laws.{part-fetched}
 use Rattle.sending.proofs.fetch.Statement.{statement}
 use Rattle.sending.proofs.fetch.Tie as tie
 

@@ -11,7 +11,7 @@ use Rattle.rules.specs.declared.Answer.the-variants.{Response}
 use Rattle.rules.specs.Bytes.{part, splice, word}
 use Rattle.rules.specs.Session.{State}
 use Rattle.rules.specs.Calls.{outcome, reply, delivered, toldBytes, toldAnswer}
-use Rattle.sending.proofs.Laws.{length-of-part}
+use Rattle.saying.proofs.Laws.{length-of-part}
 use Rattle.sending.proofs.fetch_last.Statement.{statement}
 use Rattle.sending.proofs.fetch_last.Tie as tie
 

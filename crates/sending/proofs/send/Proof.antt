@@ -2,7 +2,8 @@
 -- Assumes nothing.
 use mathlib.Core.Path.{refl, _∙_}
 use Rattle.rules.specs.Held.{send}
-use Rattle.sending.proofs.Laws.{same-outcome, all-sent}
+use Rattle.saying.proofs.Laws.{same-outcome}
+use Rattle.sending.proofs.Laws.{all-sent}
 use borrow.Author.Needs.{needs}
 use Rattle.sending.proofs.send.Statement.{statement}
 use Rattle.sending.proofs.send.Tie as tie

@@ -10,7 +10,8 @@ use lib.ListN.{length, length-append}
 use Rattle.rules.specs.Bytes.{part, splice, word}
 use Rattle.rules.specs.Session.{holding}
 use Rattle.rules.proofs.Lists.{part-start, length-splice}
-use Rattle.sending.proofs.Laws.{same-outcome, length-of-part, part-sent}
+use Rattle.saying.proofs.Laws.{same-outcome, length-of-part}
+use Rattle.sending.proofs.Laws.{part-sent}
 use Rattle.sending.proofs.send_part.Statement.{statement}
 use Rattle.sending.proofs.send_part.Tie as tie
 

@@ -10,7 +10,7 @@ use Rattle.rules.specs.Calls.{outcome, reply}
 use Rattle.storing.proofs.Laws.{form-inside, whole-form, whole-tag, whole-over, whole-ok, fits-slot, said, kept}
 use Rattle.rules.specs.Session.{state}
 use Rattle.rules.proofs.Tests.{negated, passes}
-use Rattle.sending.proofs.Laws.{delivers}
+use Rattle.saying.proofs.Laws.{delivers}
 use borrow.Author.Needs.{needs}
 use Rattle.storing.proofs.put_whole.Statement.{statement}
 use Rattle.storing.proofs.put_whole.Tie as tie

@@ -4,7 +4,7 @@ use mathlib.Core.Path.{sym, _∙_}
 use native.Mathlib.Omega.{arith}
 use Rattle.rules.specs.Session.{state}
 use Rattle.rules.proofs.Lists.{part-none}
-use Rattle.sending.proofs.Laws.{delivers, length-of-part}
+use Rattle.saying.proofs.Laws.{delivers, length-of-part}
 use Rattle.template.proofs.Laws.{admin-challenge, admin-reply, admin-none, reply-inside}
 use borrow.Author.Needs.{needs}
 use Rattle.template.proofs.auth_admin.Statement.{statement}

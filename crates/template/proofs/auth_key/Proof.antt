@@ -3,7 +3,7 @@
 use mathlib.Core.Path.{sym, _∙_}
 use native.Mathlib.Omega.{arith}
 use Rattle.rules.specs.Session.{state}
-use Rattle.sending.proofs.Laws.{delivers, length-of-part}
+use Rattle.saying.proofs.Laws.{delivers, length-of-part}
 use Rattle.template.proofs.Laws.{key-none, key-data, key-inside}
 use borrow.Author.Needs.{needs}
 use Rattle.template.proofs.auth_key.Statement.{statement}

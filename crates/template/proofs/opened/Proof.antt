@@ -3,7 +3,7 @@
 use mathlib.Core.Path.{refl}
 use Rattle.rules.specs.Keys.{opened}
 use Rattle.rules.specs.Calls.{delivered, toldBytes, toldAnswer}
-use Rattle.sending.proofs.Laws.{same-outcome}
+use Rattle.saying.proofs.Laws.{same-outcome}
 use borrow.Author.Needs.{needs}
 use Rattle.template.proofs.opened.Statement.{statement}
 use Rattle.template.proofs.opened.Tie as tie

@@ -2,7 +2,7 @@
 -- Assumes nothing.
 use mathlib.Core.Path.{_∙_}
 use Rattle.rules.specs.Session.{state}
-use Rattle.sending.proofs.Laws.{delivers}
+use Rattle.saying.proofs.Laws.{delivers}
 use Rattle.template.proofs.Laws.{reply-unasked, reply-equal, reply-other}
 use borrow.Author.Needs.{needs}
 use Rattle.template.proofs.replied.Statement.{statement}

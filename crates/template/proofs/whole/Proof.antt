@@ -4,7 +4,7 @@ use mathlib.Core.Path.{sym, _∙_}
 use native.Mathlib.Omega.{arith}
 use Rattle.rules.specs.Session.{state}
 use Rattle.ber.proofs.Laws.{last-inside}
-use Rattle.sending.proofs.Laws.{delivers}
+use Rattle.saying.proofs.Laws.{delivers}
 use Rattle.template.proofs.Laws.{whole-none, whole-some}
 use borrow.Author.Needs.{needs}
 use Rattle.template.proofs.whole.Statement.{statement}

@@ -1,4 +1,4 @@
--- `changing::reset_given` meets its contract: its tests are the rule's, and the steps made are those that the rule names.
+-- `resetting::reset_given` meets its contract: its tests are the rule's, and the steps made are those that the rule names.
 -- Assumes nothing.
 use mathlib.Core.Path.{_≡_}
 use mathlib.Core.Bool.{false}
@@ -11,10 +11,10 @@ use lib.ListN.{length}
 use Rattle.rules.specs.Reference.{pinForm, pukForm}
 use Rattle.rules.specs.Command.{thePin, thePuk, charge, restore, newValue}
 use Rattle.rules.specs.Pin.{the, refsIn, resetTo, resetGiven}
-use Rattle.attempt.proofs.Laws.{no-step, next-step, sixteen, half-length, last-half, Halves}
-use Rattle.changing.proofs.Laws.{reset-is, refused, unequal, found, reset-by}
-use Rattle.changing.proofs.reset_given.Statement.{statement}
-use Rattle.changing.proofs.reset_given.Tie as tie
+use Rattle.attempt.proofs.Laws.{no-step, next-step, sixteen, half-length, last-half, Halves, refused, unequal, found}
+use Rattle.resetting.proofs.Laws.{reset-is, reset-by}
+use Rattle.resetting.proofs.reset_given.Statement.{statement}
+use Rattle.resetting.proofs.reset_given.Tie as tie
 
 abbrev bytes : tie.Start → List ℕ
 bytes i = now (i .args .store)

@@ -1,12 +1,12 @@
--- `ber::write_head` meets its contract: the tag, and the length right behind it.
+-- `heads::write_head` meets its contract: the tag, and the length right behind it.
 -- Assumes nothing.
 use native.Mathlib.Omega.{arith}
 use borrow.Author.Needs.{needs}
 use denote.Ref.{now}
 use Rattle.rules.specs.Ber.{berLength}
 use Rattle.octets.proofs.Laws.{splice-cons}
-use Rattle.ber.proofs.write_head.Statement.{statement}
-use Rattle.ber.proofs.write_head.Tie as tie
+use Rattle.heads.proofs.write_head.Statement.{statement}
+use Rattle.heads.proofs.write_head.Tie as tie
 
 put-byte-requires : tie.Need-put-byte-requires
 put-byte-requires c κs = search needs

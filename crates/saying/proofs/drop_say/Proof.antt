@@ -5,8 +5,8 @@ use Rattle.rules.specs.Session.{State}
 use Rattle.rules.specs.Command.{says}
 use Rattle.rules.specs.Calls.{delivered}
 use borrow.Author.Needs.{needs}
-use Rattle.sending.proofs.drop_say.Statement.{statement}
-use Rattle.sending.proofs.drop_say.Tie as tie
+use Rattle.saying.proofs.drop_say.Statement.{statement}
+use Rattle.saying.proofs.drop_say.Tie as tie
 
 drop-held-requires : tie.Need-drop-held-requires
 drop-held-requires c κs = search needs

@@ -1,4 +1,4 @@
--- `changing::reset` meets its contract: the tests of the rule.
+-- `resetting::reset` meets its contract: the tests of the rule.
 -- Assumes nothing.
 use mathlib.Core.List.{List}
 use Prim.Native.Nat.{ℕ}
@@ -6,9 +6,9 @@ use borrow.Author.Needs.{needs}
 use denote.Ref.{now}
 use Rattle.rules.specs.Pin.{Refs, refsIn}
 use Rattle.attempt.proofs.Laws.{quiet, same-said}
-use Rattle.changing.proofs.Laws.{reset-p1, reset-p2, reset-80}
-use Rattle.changing.proofs.reset.Statement.{statement}
-use Rattle.changing.proofs.reset.Tie as tie
+use Rattle.resetting.proofs.Laws.{reset-p1, reset-p2, reset-80}
+use Rattle.resetting.proofs.reset.Statement.{statement}
+use Rattle.resetting.proofs.reset.Tie as tie
 
 abbrev refs : tie.Start → Refs
 refs i = refsIn (now (i .args .store)) (i .args .given)

@@ -4,8 +4,8 @@ use mathlib.Core.Path.{ap}
 use Rattle.rules.specs.Bytes.{word}
 use Rattle.rules.specs.Calls.{outcome, delivered, toldBytes, toldAnswer}
 use borrow.Author.Needs.{needs}
-use Rattle.sending.proofs.say.Statement.{statement}
-use Rattle.sending.proofs.say.Tie as tie
+use Rattle.saying.proofs.say.Statement.{statement}
+use Rattle.saying.proofs.say.Tie as tie
 
 put-word-requires : tie.Need-put-word-requires
 put-word-requires c κs = search needs

@@ -1,4 +1,4 @@
--- `ber::write_length` meets its contract, at each number of length bytes.
+-- `heads::write_length` meets its contract, at each number of length bytes.
 -- Assumes nothing.
 use mathlib.Core.Path.{_≡_, sym, ap}
 use mathlib.Core.List.{List, [], _∷_}
@@ -11,9 +11,9 @@ use Rattle.rules.specs.Ber.{lengthBytes, lengthForm, berLength}
 use Rattle.rules.proofs.Tests.{by-order}
 use Rattle.rules.proofs.Lengths.{counted}
 use Rattle.octets.proofs.Laws.{splice-cons}
-use Rattle.ber.proofs.Laws.{one-to-three}
-use Rattle.ber.proofs.write_length.Statement.{statement}
-use Rattle.ber.proofs.write_length.Tie as tie
+use Rattle.heads.proofs.Laws.{one-to-three}
+use Rattle.heads.proofs.write_length.Statement.{statement}
+use Rattle.heads.proofs.write_length.Tie as tie
 
 length-bytes-requires : tie.Need-length-bytes-requires
 length-bytes-requires c κs = search needs
