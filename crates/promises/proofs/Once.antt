@@ -128,7 +128,7 @@ use Rattle.card.proofs.job_result.Reads as card-job-result
 itself : {A : Type 0} → Shows {O = A} {S = A} (λ o. o)
 itself = record { back = λ o. o; same = λ o. refl }
 
-alike : {A : Type 0} {z : A} (x y : A) → x ≡ z → y ≡ z → x ≡ y
+pub alike : {A : Type 0} {z : A} (x y : A) → x ≡ z → y ≡ z → x ≡ y
 alike {A} {z} x y = no-second (Unit {0}) A A (λ o. o) itself (λ _. z) tt x y
 
 by-judgement : {r q : Judged} {x y : List ℕ} {z : Judgement} → judgement r x ≡ z → judgement q y ≡ z → (r ≡ q) × (x ≡ y)
@@ -137,7 +137,7 @@ by-judgement p q = let e = alike _ _ p q in (ap (λ (j : Judgement). j .judged) 
 by-state : {r q : Session} {m x y : List ℕ} {z : State} → state m x r ≡ z → state m y q ≡ z → (r ≡ q) × (x ≡ y)
 by-state p q = let e = alike _ _ p q in (ap (λ (j : State). j .session) e, ap (λ (j : State). j .work) e)
 
-by-outcome : {r q : Reply} {m n w v b d : List ℕ} {z : Outcome} → outcome r m w b ≡ z → outcome q n v d ≡ z → (r ≡ q) × (m ≡ n) × (w ≡ v) × (b ≡ d)
+pub by-outcome : {r q : Reply} {m n w v b d : List ℕ} {z : Outcome} → outcome r m w b ≡ z → outcome q n v d ≡ z → (r ≡ q) × (m ≡ n) × (w ≡ v) × (b ≡ d)
 by-outcome p q =
     let e = alike _ _ p q in
     (ap (λ (o : Outcome). o .reply) e, ap (λ (o : Outcome). o .store) e, ap (λ (o : Outcome). o .work) e, ap (λ (o : Outcome). o .resp) e)

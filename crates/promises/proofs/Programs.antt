@@ -1,0 +1,84 @@
+-- Programs: the same of the public functions that the programs are built of (Once says how to read it).
+--
+-- What `text::keep`, `text::bad`, `hexlines::answer`, `probelines::place` and `probelines::answer` promise is an equation of what is seen, which has the
+-- parts of the outcome side by side, so it leaves one in the same way.
+-- Assumes nothing.
+use mathlib.Core.Path.{_≡_}
+use mathlib.Core.Bool.{Bool}
+use mathlib.Core.List.{List}
+use Prim.Native.Nat.{ℕ}
+use denote.Ref.{RefT, now}
+use Rattle.rules.specs.declared.Reply.{Reply}
+use Rattle.packed.specs.declared.Taken.{Taken}
+use Rattle.verbs.specs.declared.Verb.{Verb}
+use Rattle.text.proofs.is_hex.Reads as text-is-hex
+use Rattle.text.proofs.read_hex.Reads as text-read-hex
+use Rattle.text.proofs.write_hex.Reads as text-write-hex
+use Rattle.text.proofs.first.Reads as text-first
+use Rattle.text.proofs.after.Reads as text-after
+use Rattle.hexcalls.proofs.command.Reads as hexcalls-command
+use Rattle.hexcalls.proofs.job_result.Reads as hexcalls-job-result
+use Rattle.hexlines.proofs.fixed_card.Reads as hexlines-fixed-card
+use Rattle.packed.proofs.pack.Reads as packed-pack
+use Rattle.packed.proofs.session_in.Reads as packed-session-in
+use Rattle.sums.proofs.sum.Reads as sums-sum
+use Rattle.sums.proofs.write_decimal.Reads as sums-write-decimal
+use Rattle.outcomes.proofs.write.Reads as outcomes-write
+use Rattle.verbs.proofs.verb_of.Reads as verbs-verb-of
+use Rattle.promises.proofs.Once.{alike, by-outcome}
+
+-- ---- text
+
+once-text-is-hex : (κs : _) (a : _) (r q : Bool) (s t : _) → text-is-hex.Post κs a r s → text-is-hex.Post κs a q t → r ≡ q
+once-text-is-hex κs a r q s t = alike r q
+
+once-text-read-hex : (κs : _) (a : _) (s t : _) → text-read-hex.Post κs a tt s → text-read-hex.Post κs a tt t → now (s .0) ≡ now (t .0)
+once-text-read-hex κs a s t = alike _ _
+
+once-text-write-hex : (κs : _) (a : _) (r q : ℕ) (s t : _) → text-write-hex.Post κs a r s → text-write-hex.Post κs a q t → (r ≡ q) × (now (s .0) ≡ now (t .0))
+once-text-write-hex κs a r q s t x y = (alike r q (x .0) (y .0), alike _ _ (x .1) (y .1))
+
+once-text-first : (κs : _) (a : _) (r q : RefT (List ℕ)) (s t : _) → text-first.Post κs a r s → text-first.Post κs a q t → now r ≡ now q
+once-text-first κs a r q s t = alike _ _
+
+once-text-after : (κs : _) (a : _) (r q : RefT (List ℕ)) (s t : _) → text-after.Post κs a r s → text-after.Post κs a q t → now r ≡ now q
+once-text-after κs a r q s t = alike _ _
+
+-- ---- hexcalls
+
+once-hexcalls-command : (κs : _) (a : _) (r q : Reply) (s t : _) → hexcalls-command.Post κs a r s → hexcalls-command.Post κs a q t → (r ≡ q) × (now (s .1 .0) ≡ now (t .1 .0)) × (now (s .1 .1 .0) ≡ now (t .1 .1 .0)) × (now (s .1 .1 .1 .0) ≡ now (t .1 .1 .1 .0))
+once-hexcalls-command κs a r q s t x y = let e = by-outcome x y in (e .0, e .1, e .2, e .3)
+
+once-hexcalls-job-result : (κs : _) (a : _) (r q : Reply) (s t : _) → hexcalls-job-result.Post κs a r s → hexcalls-job-result.Post κs a q t → (r ≡ q) × (now (s .1 .1 .0) ≡ now (t .1 .1 .0)) × (now (s .1 .1 .1 .0) ≡ now (t .1 .1 .1 .0))
+once-hexcalls-job-result κs a r q s t x y = let e = by-outcome x y in (e .0, e .2, e .3)
+
+-- ---- hexlines
+
+once-hexlines-fixed-card : (κs : _) (a : _) (s t : _) → hexlines-fixed-card.Post κs a tt s → hexlines-fixed-card.Post κs a tt t → now (s .0) ≡ now (t .0)
+once-hexlines-fixed-card κs a s t = alike _ _
+
+-- ---- packed
+
+once-packed-pack : (κs : _) (a : _) (s t : _) → packed-pack.Post κs a tt s → packed-pack.Post κs a tt t → now (s .0) ≡ now (t .0)
+once-packed-pack κs a s t = alike _ _
+
+once-packed-session-in : (κs : _) (a : _) (r q : Taken) (s t : _) → packed-session-in.Post κs a r s → packed-session-in.Post κs a q t → r ≡ q
+once-packed-session-in κs a r q s t = alike r q
+
+-- ---- sums
+
+once-sums-sum : (κs : _) (a : _) (r q : ℕ) (s t : _) → sums-sum.Post κs a r s → sums-sum.Post κs a q t → r ≡ q
+once-sums-sum κs a r q s t = alike r q
+
+once-sums-write-decimal : (κs : _) (a : _) (r q : ℕ) (s t : _) → sums-write-decimal.Post κs a r s → sums-write-decimal.Post κs a q t → (r ≡ q) × (now (s .0) ≡ now (t .0))
+once-sums-write-decimal κs a r q s t x y = (alike r q (x .0) (y .0), alike _ _ (x .1) (y .1))
+
+-- ---- outcomes
+
+once-outcomes-write : (κs : _) (a : _) (r q : ℕ) (s t : _) → outcomes-write.Post κs a r s → outcomes-write.Post κs a q t → (r ≡ q) × (now (s .0) ≡ now (t .0))
+once-outcomes-write κs a r q s t x y = (alike r q (x .0) (y .0), alike _ _ (x .1) (y .1))
+
+-- ---- verbs
+
+once-verbs-verb-of : (κs : _) (a : _) (r q : Verb) (s t : _) → verbs-verb-of.Post κs a r s → verbs-verb-of.Post κs a q t → r ≡ q
+once-verbs-verb-of κs a r q s t = alike r q
