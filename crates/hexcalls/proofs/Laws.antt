@@ -1,6 +1,7 @@
 -- Laws: of a command and of a result, no more than the first 262 bytes matter.
 --
 --   read-back count-back few-bytes    the bytes that are read of a row of digits, and their number
+--   sends-long             two commands that are too long
 --   sends-few              a command, and its first bytes
 --   finishes-few           a result, and its first bytes
 --
@@ -71,11 +72,14 @@ sends-same st resp c d e = go (permit st (sends resp c))
     go Granted = ap (λ m. (delivered resp m) .outcome) e
     go (Denied r) = refl
 
+pub sends-long : (st : State) (resp c d : List ℕ) → 261 < length c → 261 < length d → (call st (sends resp c)) .outcome ≡ (call st (sends resp d)) .outcome
+sends-long st resp c d hc hd = sends-same st resp c d (command-long st c d hc hd)
+
 pub sends-few : (st : State) (resp c : List ℕ) (n : ℕ) → n ≡ min (length c) 262
     → (call st (sends resp (take n c))) .outcome ≡ (call st (sends resp c)) .outcome
 sends-few st resp c n e =
     by-order 262 (length c)
-    (λ h. sends-same st resp (take n c) c (command-long st (take n c) c (omega (arith, length-take n c)) (omega arith)))
+    (λ h. sends-long st resp (take n c) c (omega (arith, length-take n c)) (omega arith))
     (λ h. ap (λ (x : List ℕ). (call st (sends resp x)) .outcome) (first c n e h))
 
 -- ---- results

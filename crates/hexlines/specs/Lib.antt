@@ -1,1 +1,2 @@
 pub mod HexLines
+pub mod Claims

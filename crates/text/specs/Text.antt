@@ -7,6 +7,7 @@
 --   hexOf s               the bytes s in upper-case hex
 --   Kept                  a line of which a buffer keeps what matters: the buffer, and how much of it is the line
 --   keep s n b            the line of the first n bytes of s, with the byte b more
+--   keptLine s l          what is kept of the line l in the buffer s
 --   badLine               what is printed for a line that says nothing
 --
 -- A character is its number. Assumes nothing.
@@ -14,7 +15,7 @@ use mathlib.Core.Bool.{Bool, true, false, _&&_, _||_}
 use mathlib.Core.List.{List, [], _∷_, _++_}
 use Prim.Native.Nat.{ℕ, _+_, _-_, _*_, _/_, _%_}
 use lib.Dec.{ltb, leb, eqb}
-use lib.ListN.{length, getD}
+use lib.ListN.{length, take, getD}
 use Rattle.rules.specs.Bytes.{iff, all, splice}
 
 -- ---- hex
@@ -59,6 +60,14 @@ unfoldable pub keep : List ℕ → ℕ → ℕ → Kept
 keep s n b =
     iff (ltb n (length s)) (kept (n + 1) (splice s n (b ∷ [])))
     (iff (isDigit b && isDigit (getD s (n - 1) 0)) (kept (n - 1) s) (kept n (splice s 0 (0 ∷ []))))
+
+-- a line, byte by byte
+abbrev pub keepAll : List ℕ → ℕ → List ℕ → Kept
+keepAll s n [] = kept n s
+keepAll s n (b ∷ l) = let k = keep s n b in keepAll (k .bytes) (k .len) l
+
+unfoldable pub keptLine : List ℕ → List ℕ → List ℕ
+keptLine s l = let k = keepAll s 0 l in take (k .len) (k .bytes)
 
 -- ---- a line that nobody understands
 
