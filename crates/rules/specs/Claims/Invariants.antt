@@ -37,7 +37,7 @@ abbrev pub Each : (Call → Type 0) → List Call → Type 0
 Each P [] = Unit {0}
 Each P (k ∷ ks) = P k × Each P ks
 
--- held: the work area is the bytes that the session says it holds, and zeros
+-- held: past the bytes that the session says it holds, the work area is zero
 -- full, contact: the PIN status is TRUE only with all tries left, and by contact
 -- served: the administrator status is TRUE only by contact
 pub record Sane (st : State) : Type 0 where
