@@ -7,23 +7,22 @@
 --
 -- Assumes nothing.
 use mathlib.Core.Path.{_≡_, refl, ap, sym, _∙_, subst}
-use mathlib.Core.Bool.{Bool, true, false, not, _&&_, _||_, true≢false, false≢true}
+use mathlib.Core.Bool.{Bool, true, false, not, _||_, true≢false}
 use mathlib.Core.Logic.{_⊎_, inl, inr, ⊎-elim}
-use mathlib.Core.List.{List, [], _∷_}
+use mathlib.Core.List.{List}
 use Prim.Native.Nat.{ℕ, zero, suc, _+_, _-_, _≤_, _<_}
 use native.Mathlib.Omega.{arith}
-use lib.Dec.{ltb, leb, eqb}
+use lib.Dec.{ltb, leb}
 use lib.ListN.{length, getD}
-use borrow.Author.Tests.{ltb-true, leb-true, le-ltb, lt-leb, not-true, not-false}
+use borrow.Author.Tests.{le-ltb, lt-leb, not-true}
 use Rattle.rules.specs.declared.Session.{Session}
-use Rattle.rules.specs.Bytes.{iff, allBelow, part, splice, be16}
-use Rattle.rules.specs.Store.{Access, always, PIN, never, contactRead, contactlessRead, slots, capacity, offset, slotLength, objectOf, pinAt, pukAt, wellFormed}
-use Rattle.rules.specs.Session.{allows, pinGiven, readable}
+use Rattle.rules.specs.Bytes.{iff, allBelow, splice, be16}
+use Rattle.rules.specs.Store.{Access, always, PIN, never, contactRead, contactlessRead, slots, capacity, offset, slotLength, objectOf}
+use Rattle.rules.specs.Session.{allows, readable}
 use Rattle.rules.specs.Claims.Secrecy.{within, isPin, pinRead, anyBelow, inPinRead, secret, Alike}
 use Rattle.rules.proofs.Tests.{on, off, and-off-left, and-off-right, or-none, or-other, at-each, by-order, by-equal}
 use Rattle.rules.proofs.Lists.{length-splice, splice-before, splice-in, splice-after, part-ext}
 use Rattle.rules.proofs.Slots.{Sound, slot-fits, slot-from, slots-apart}
-use Rattle.rules.proofs.WellFormed.{wf-sound}
 
 -- ---- what is not secret
 

@@ -1,12 +1,10 @@
 -- Earned: the PIN status becomes TRUE only in a call in which the PIN was compared and found equal (specs/Claims/Invariants, `earned`).
 -- Assumes nothing.
-use mathlib.Core.Path.{_≡_, refl, ap, sym, _∙_, subst}
+use mathlib.Core.Path.{_≡_, refl, sym, _∙_, subst}
 use mathlib.Core.Logic.{_⊎_, inl, inr}
-use mathlib.Core.Bool.{Bool, true, false, not, _&&_, _||_, false≢true}
-use mathlib.Core.List.{List, [], _∷_}
-use Prim.Native.Nat.{ℕ, _+_}
-use lib.Dec.{leb, eqb}
-use lib.ListN.{length, take, drop}
+use mathlib.Core.Bool.{Bool, true, false, false≢true}
+use mathlib.Core.List.{List, []}
+use Prim.Native.Nat.{ℕ}
 use Rattle.rules.specs.declared.Challenge.{Challenge}
 use Rattle.rules.specs.declared.Challenge.the-variants.{Unasked, Awaits}
 use Rattle.rules.specs.declared.Job.{Job}
@@ -24,17 +22,15 @@ use Rattle.rules.specs.declared.Admin.the-variants.{GiveChallenge, Reply
 use Rattle.rules.specs.declared.Header.{Header}
 use Rattle.rules.specs.declared.Checked.{Checked}
 use Rattle.rules.specs.declared.Checked.the-variants.{Passed, Failed}
-use Rattle.rules.specs.declared.Refusal.{Refusal}
 use Rattle.rules.specs.declared.Permit.{Permit}
 use Rattle.rules.specs.declared.Permit.the-variants.{Granted, Denied}
-use Rattle.rules.specs.Bytes.{iff}
 use Rattle.rules.specs.Session.{State}
-use Rattle.rules.specs.Command.{fieldOf, check, Which, thePin, thePuk, Step, Made}
+use Rattle.rules.specs.Command.{fieldOf, Which, thePin, thePuk, Made}
 use Rattle.rules.specs.Held.{calm, dropped, send, fetch, based, gathered, heldPiece, closed, piece}
-use Rattle.rules.specs.Pin.{Refs, Said, answer, missed, verified, verifyGiven, verifyAsked, verifyEnded, verify, changed, changeOf, change, resetTo, resetGiven, reset, refsIn, refs, withGiven, after, putRefs, onRefs}
+use Rattle.rules.specs.Pin.{Refs, Said, missed, verified, verifyGiven, verifyAsked, verifyEnded, verify, changed, changeOf, change, resetTo, resetGiven, reset, refsIn, refs, withGiven, after, putRefs, onRefs}
 use Rattle.rules.specs.Objects.{select, askedIn, giveObject, getSlot, getAsked, getData, getRest, getResponse, stored, putSlot, putWhole, putForm, putPiece, putData}
 use Rattle.rules.specs.Keys.{contents, replied, opened, authAdmin, authKey, authIn, authForm, authWhole, authPiece, authenticate, challenged, answered, finished}
-use Rattle.rules.specs.Calls.{ruled, obeyed, command, Call, powers, sends, finishes, permit, Result, delivered, poweredOn, granted, keptSession, denied, decided, call}
+use Rattle.rules.specs.Calls.{ruled, obeyed, command, Call, powers, sends, finishes, permit, delivered, poweredOn, granted, keptSession, denied, decided, call}
 use Rattle.rules.specs.Claims.Invariants.{pinEqual}
 use Rattle.rules.proofs.Tests.{either}
 

@@ -6,44 +6,37 @@
 --   pieces-put             once all pieces are answered 9000, the slot holds the value
 --
 -- Assumes nothing.
-use mathlib.Core.Path.{_≡_, refl, ap, ap₂, sym, _∙_, subst}
-use mathlib.Core.Bool.{Bool, true, false, not, _&&_, true≢false, false≢true}
-use mathlib.Core.List.{List, [], _∷_, _++_, append-assoc}
+use mathlib.Core.Path.{_≡_, refl, ap, sym, _∙_, subst}
+use mathlib.Core.Bool.{Bool, true, false, not}
+use mathlib.Core.List.{List, [], _++_, append-assoc}
 use Prim.Native.Nat.{ℕ, _+_, _-_, _*_, _/_, _%_, _≤_, _<_}
 use native.Mathlib.Omega.{arith}
-use lib.Dec.{ltb, leb, eqb}
-use lib.ListN.{length, take, drop, getD, length-append}
-use lib.Seq.{take-at, length-take-le}
-use borrow.Author.Tests.{eqb-true, eqb-false, eq-eqb, lt-ltb, not-false}
+use lib.Dec.{eqb}
+use lib.ListN.{length, take, length-append}
+use lib.Seq.{length-take-le}
+use borrow.Author.Tests.{eqb-true, eq-eqb, lt-ltb}
 use Rattle.rules.specs.declared.Chain.{Chain}
 use Rattle.rules.specs.declared.Chain.the-variants.{Shut, Open}
-use Rattle.rules.specs.declared.Rest.the-variants.{Gone}
 use Rattle.rules.specs.declared.Challenge.{Challenge}
 use Rattle.rules.specs.declared.Header.{Header}
-use Rattle.rules.specs.declared.Checked.{Checked}
 use Rattle.rules.specs.declared.Checked.the-variants.{Passed}
-use Rattle.rules.specs.declared.Refusal.{Refusal}
-use Rattle.rules.specs.declared.Permit.{Permit}
-use Rattle.rules.specs.declared.Permit.the-variants.{Granted, Denied}
-use Rattle.rules.specs.declared.Put.{Put}
-use Rattle.rules.specs.declared.Put.the-variants.{Object, NoObject}
-use Rattle.rules.specs.Bytes.{iff, part, splice}
+use Rattle.rules.specs.declared.Put.the-variants.{Object}
 use Rattle.rules.specs.Ber.{berLength, tlv}
-use Rattle.rules.specs.Store.{storeSize, workSize, slots, discovery, capacity, objectOf, takes, putObject}
-use Rattle.rules.specs.Session.{State, state, holding, chainLength, jobOpen}
-use Rattle.rules.specs.Command.{fieldOf, check, Wrote, nothing, inSlot, Made, responds, tells, says}
+use Rattle.rules.specs.Store.{workSize, slots, objectOf, takes}
+use Rattle.rules.specs.Session.{State, chainLength, jobOpen}
+use Rattle.rules.specs.Command.{fieldOf, check, inSlot, Made, says}
 use Rattle.rules.specs.Held.{calm, dropped, goesOn, based, gathered, heldPiece, closed, piece}
-use Rattle.rules.specs.Objects.{putForm, stored, putSlot, putWhole, putEach, putPiece, putData}
-use Rattle.rules.specs.Calls.{ruled, obeyed, command, Call, powers, sends, finishes, Result, interrupts, permit, delivered, granted, keptSession, denied, decided, call}
+use Rattle.rules.specs.Objects.{stored, putSlot, putWhole, putEach, putPiece, putData}
+use Rattle.rules.specs.Calls.{ruled, obeyed, command, Call, Result, interrupts, delivered, granted, decided, call}
 use Rattle.rules.specs.Runs.{leaves, endOf}
 use Rattle.rules.specs.Claims.Invariants.{Plain, Each}
 use Rattle.rules.specs.Claims.ReadBack.{tagList, putField, wordOf, putOpen, Puts, Pieces, last, next, refused}
-use Rattle.rules.proofs.Tests.{either, branch, on, off, and-both}
-use Rattle.rules.proofs.Lists.{length-splice}
+use Rattle.rules.proofs.Tests.{either, on, off}
+use Rattle.rules.proofs.Lists.{take-splice}
 use Rattle.rules.proofs.Slots.{put-object}
 use Rattle.rules.proofs.WellFormed.{wf-size}
-use Rattle.rules.proofs.Kept.{Fine, Well, Moved, Starts, well-fine, fine-calm, based-starts, chain-fits, put-total}
-use Rattle.rules.proofs.Invariants.{Lets, granted-lets, power-granted, After, call-kept}
+use Rattle.rules.proofs.Kept.{Well, Moved, Starts, well-fine, fine-calm, based-starts, chain-fits, put-total}
+use Rattle.rules.proofs.Invariants.{granted-lets, refused-leaves, call-kept}
 use Rattle.rules.proofs.Reading.{word-delivered}
 use Rattle.rules.proofs.Pieces.{Formed, put-form}
 
@@ -123,12 +116,6 @@ unfolding Has based calm dropped
 has-none st e h a b c =
     ap (λ (x : State). take (chainLength (x .session .chain)) (x .work)) (off _ _ _ (goes-put (st .session .chain) h a b c ∙ e))
 
-take-splice : (s v : List ℕ) (at : ℕ) → at ≤ length s → take (at + length v) (splice s at v) ≡ take at s ++ v
-unfolding splice
-take-splice s v at h =
-    ap (take (at + length v)) (sym (append-assoc (take at s) v (drop (at + length v) s)))
-    ∙ take-at (take at s ++ v) _ (at + length v) (length-append (take at s) v ∙ ap (λ (n : ℕ). n + length v) (length-take-le at s h))
-
 module _ (st : State) (g : Well st) (f : List ℕ) (has : Has st f) (cla : ℕ) (k : Call) (d : List ℕ) (p : Puts cla st k d) where
   free : jobOpen (st .session) ≡ false
   unfolding interrupts
@@ -193,17 +180,6 @@ module _ (st : State) (g : Well st) (f : List ℕ) (has : Has st f) (cla : ℕ) 
 
 -- ---- all pieces
 
--- a refused call leaves the state as it was
-abbrev Yes : Permit → Type 0
-Yes Granted = Unit {0}
-Yes (Denied r) = ⊥
-
-denied-leaves : (st : State) → Well st → (k : Call) (r : Refusal) → permit st k ≡ Denied r → leaves (call st k) ≡ st
-unfolding call decided denied leaves keptSession
-denied-leaves st g (powers air) r e = absurd (subst Yes (sym (power-granted st g air) ∙ e) tt)
-denied-leaves st g (sends resp c) r e = ap (λ (p : Permit). leaves (decided st (sends resp c) p)) e
-denied-leaves st g (finishes resp failed x) r e = ap (λ (p : Permit). leaves (decided st (finishes resp failed x) p)) e
-
 -- the value is no longer than its field
 field-long : (i : ℕ) (v : List ℕ) → length v ≤ length (putField i v)
 unfolding putField tlv
@@ -232,4 +208,4 @@ module _ (i : ℕ) (v : List ℕ) (hi : i < slots) where
       pieces-put (leaves (call st k)) ks d rest (call-kept st g k (b .0) .well) (b .1) (f ++ a)
       (subst (λ (x : State). Has x (f ++ a)) (sym (leaves-held st g f has 0x10 k a p refl)) (held-has st g f has 0x10 k a p)) (append-assoc f a d ∙ e)
   pieces-put _ _ _ (refused st k ks d r q rest) g b f has e =
-      pieces-put (leaves (call st k)) ks d rest (call-kept st g k (b .0) .well) (b .1) f (subst (λ (x : State). Has x f) (sym (denied-leaves st g k r q)) has) e
+      pieces-put (leaves (call st k)) ks d rest (call-kept st g k (b .0) .well) (b .1) f (subst (λ (x : State). Has x f) (sym (refused-leaves st g k r q)) has) e

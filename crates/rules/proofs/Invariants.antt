@@ -3,6 +3,7 @@
 --   Lets st k              no test of the row of refusals stops the call k
 --   granted-lets           a call that is granted passes each of them
 --   power-granted          a power-on in a state that is well is granted
+--   refused-leaves         a call that is refused leaves the state as it was
 --   call-kept              a call leaves a state that is well, and has moved the objects as its `wrote` says
 --   powered-well           so is the state after a power-on that is granted
 --   run-well               so is the state after a row of calls
@@ -10,32 +11,28 @@
 --
 -- Assumes nothing.
 use mathlib.Core.Path.{_≡_, refl, ap, sym, _∙_, subst}
-use mathlib.Core.Bool.{Bool, true, false, not, _&&_, true≢false, false≢true}
+use mathlib.Core.Bool.{Bool, true, false, not, true≢false, false≢true}
 use mathlib.Core.List.{List, [], _∷_, _++_}
-use Prim.Native.Nat.{ℕ, _+_, _-_, _≤_, _<_}
+use Prim.Native.Nat.{ℕ, _+_, _-_, _≤_}
 use native.Mathlib.Omega.{arith}
-use lib.Dec.{eqb}
-use lib.ListN.{length, take, getD, replicate, length-append, length-replicate, getD-replicate, List·getD-append, List·getD-eq-default}
+use lib.ListN.{length, take, getD, length-append, getD-replicate, List·getD-append, List·getD-eq-default}
 use lib.Seq.{length-take-le, ext-getD, getD-append-add, getD-take}
 use borrow.Author.Tests.{eqb-true, eq-eqb, not-false}
 use Rattle.rules.specs.declared.Refusal.{Refusal}
-use Rattle.rules.specs.declared.Refusal.the-variants.{IllStore, IllSession, ShortResponse, WrongWork, JobOpen, NoJob, WrongResult}
 use Rattle.rules.specs.declared.Permit.{Permit}
 use Rattle.rules.specs.declared.Permit.the-variants.{Granted, Denied}
 use Rattle.rules.specs.declared.Session.{Session}
-use Rattle.rules.specs.Bytes.{iff, zeros}
+use Rattle.rules.specs.Bytes.{zeros}
 use Rattle.rules.specs.Store.{workSize, wellFormed}
-use Rattle.rules.specs.Session.{State, state, cleared, heldLength, sessionTests, possible}
-use Rattle.rules.specs.Keys.{resultFits}
+use Rattle.rules.specs.Session.{State, state, heldLength, sessionTests, possible}
 use Rattle.rules.specs.Calls.{Call, powers, sends, finishes, illSession, shortResponse, interrupts, unasked, wrongResult, permit, Result, delivered, poweredOn, granted, denied, keptSession, decided, call}
 use Rattle.rules.specs.Runs.{leaves, endOf}
-use Rattle.rules.specs.Claims.Lengths.{Bytes}
 use Rattle.rules.specs.Claims.Invariants.{Plain, Each, Sane, Pardoned, Holds}
 use Rattle.rules.proofs.Tests.{branch, off, by-order, and-other}
 use Rattle.rules.proofs.WellFormed.{wf-tests}
 use Rattle.rules.proofs.StaysWell.{tries}
 use Rattle.rules.proofs.Earned.{call-earned}
-use Rattle.rules.proofs.Kept.{Zero, Well, Moved, Kept, Tests, possible-tests, well-fine, held-fits-by, command-kept, finished-kept, length-zeros}
+use Rattle.rules.proofs.Kept.{Zero, Well, Moved, possible-tests, well-fine, held-fits-by, command-kept, finished-kept, length-zeros}
 
 -- ---- the row of refusals
 
@@ -151,11 +148,20 @@ abbrev Yes : Permit → Type 0
 Yes Granted = Unit {0}
 Yes (Denied r) = ⊥
 
-denied-kept : (st : State) → Well st → (k : Call) (r : Refusal) → permit st k ≡ Denied r → After (st .store) (denied st k r)
+denied-leaves : (st : State) → Well st → (k : Call) (r : Refusal) → permit st k ≡ Denied r → leaves (denied st k r) ≡ st
 unfolding denied leaves keptSession
-denied-kept st g (powers air) r e = absurd (subst Yes (sym (power-granted st g air) ∙ e) tt)
-denied-kept st g (sends resp c) r e = record { well = g; moved = λ j h. refl }
-denied-kept st g (finishes resp failed x) r e = record { well = g; moved = λ j h. refl }
+denied-leaves st g (powers air) r e = absurd (subst Yes (sym (power-granted st g air) ∙ e) tt)
+denied-leaves st g (sends resp c) r e = refl
+denied-leaves st g (finishes resp failed x) r e = refl
+
+-- a refused call leaves the state as it was
+pub refused-leaves : (st : State) → Well st → (k : Call) (r : Refusal) → permit st k ≡ Denied r → leaves (call st k) ≡ st
+unfolding call decided
+refused-leaves st g k r e = ap (λ (p : Permit). leaves (decided st k p)) e ∙ denied-leaves st g k r e
+
+denied-kept : (st : State) → Well st → (k : Call) (r : Refusal) → permit st k ≡ Denied r → After (st .store) (denied st k r)
+unfolding denied
+denied-kept st g k r e = record { well = subst Well (sym (denied-leaves st g k r e)) g; moved = λ j h. refl }
 
 decided-kept : (st : State) → Well st → (k : Call) → Plain k → (p : Permit) → permit st k ≡ p → After (st .store) (decided st k p)
 unfolding decided

@@ -6,19 +6,20 @@
 --   Moved s t x            of the objects in s, t has another in place of the one that x names, and no other change
 --   Kept s x               what comes of a command made on the store s is well, and its store has moved so
 --   possible-tests possible-by    the tests of a possible session
+--   no-chain no-rest none-open     what cannot be held beside a rest, a chain or a job
 --   command-kept           a command
 --   finished-kept          the result of a job
 --
 -- Assumes nothing.
 use mathlib.Core.Path.{_≡_, refl, ap, sym, _∙_, subst}
-use mathlib.Core.Logic.{_⊎_, inl, inr, ⊎-elim}
+use mathlib.Core.Logic.{inr}
 use mathlib.Core.Bool.{Bool, true, false, not, _&&_, _||_, true≢false, false≢true}
-use mathlib.Core.List.{List, [], _∷_, _++_}
+use mathlib.Core.List.{List, [], _∷_}
 use Prim.Native.Nat.{ℕ, zero, suc, _+_, _-_, _≤_, _<_}
 use native.Mathlib.Omega.{arith}
 use lib.Dec.{ltb, leb, eqb}
-use lib.ListN.{length, take, drop, getD, replicate, length-append, length-take, length-drop, length-replicate, getD-replicate}
-use borrow.Author.Tests.{eqb-true, eqb-false, eq-eqb, ne-eqb, ltb-true, ltb-false, leb-true, leb-false, le-leb, lt-ltb, not-true, not-false}
+use lib.ListN.{length, take, getD, length-append, length-take, length-replicate, getD-replicate}
+use borrow.Author.Tests.{eqb-true, eqb-false, ltb-true, ltb-false, leb-true, leb-false, le-leb, lt-ltb, not-true, not-false}
 use Rattle.rules.specs.declared.Chain.{Chain}
 use Rattle.rules.specs.declared.Chain.the-variants.{Shut, Open}
 use Rattle.rules.specs.declared.Rest.{Rest}
@@ -39,21 +40,21 @@ use Rattle.rules.specs.declared.Header.{Header}
 use Rattle.rules.specs.declared.Checked.{Checked}
 use Rattle.rules.specs.declared.Checked.the-variants.{Passed, Failed}
 use Rattle.rules.specs.declared.Session.{Session}
-use Rattle.rules.specs.Bytes.{iff, allTrue, all, part, splice, zeros, zeroed, word}
+use Rattle.rules.specs.Bytes.{iff, all, part, splice, zeros, zeroed, word}
 use Rattle.rules.specs.Book.{book}
 use Rattle.rules.specs.Ber.{berLength, lengthForm, tlv}
 use Rattle.rules.specs.Reference.{referenceAt}
-use Rattle.rules.specs.Store.{storeSize, workSize, slots, capacity, objectOf, takes, putObject, pinAt, keyPlace, algorithmOf, algorithmOk, wellFormed}
-use Rattle.rules.specs.Session.{State, state, storing, inSession, holding, withPin, withAdmin, withChallenge, withJob, pinGiven, chainLength, wholeLength, heldLength, chainOpen, restHeld, challengeHeld, running, jobOpen, authTotal, chainOk, restOk, userKey, userAlgorithm, keyJobOk, jobOk, sessionTests, possible}
-use Rattle.rules.specs.Command.{leOf, header, fieldOf, parseLong, parse, known, contactOnly, admit, admitted, check, Told, responds, Wrote, nothing, inSlot, Made, tells, says}
+use Rattle.rules.specs.Store.{workSize, slots, capacity, objectOf, takes, putObject, pinAt, keyPlace, algorithmOf, algorithmOk, wellFormed}
+use Rattle.rules.specs.Session.{State, inSession, withAdmin, chainLength, wholeLength, heldLength, chainOpen, restHeld, challengeHeld, running, jobOpen, authTotal, chainOk, restOk, userKey, userAlgorithm, keyJobOk, jobOk, sessionTests, possible}
+use Rattle.rules.specs.Command.{leOf, header, fieldOf, parseLong, parse, known, contactOnly, admit, admitted, check, Wrote, nothing, inSlot, Made, says}
 use Rattle.rules.specs.Held.{calm, dropped, send, fetch, goesOn, based, gathered, heldPiece, closedWork, closed, piece}
-use Rattle.rules.specs.Pin.{Refs, after, Said, refsIn, refsOnto, refs, putRefs, onRefs, verify, change, reset}
+use Rattle.rules.specs.Pin.{Refs, after, Said, refsIn, refsOnto, refs, putRefs, onRefs}
 use Rattle.rules.specs.Objects.{template, select, askedIn, objectTag, giveObject, getSlot, getAsked, getData, getRest, getResponse, putForm, stored, putSlot, putWhole, putEach, putPiece, putData}
-use Rattle.rules.specs.Keys.{keyFits, asksPin, authEach, contents, adminForm, keyForm, replied, opened, authAdmin, authKey, authIn, authForm, authWhole, authPiece, authenticate, resultOk, resultFits, challenged, answered, finished}
+use Rattle.rules.specs.Keys.{keyFits, authEach, contents, replied, opened, authAdmin, authKey, authIn, authForm, authWhole, authPiece, authenticate, resultOk, resultFits, challenged, answered, finished}
 use Rattle.rules.specs.Calls.{ruled, obeyed, command}
 use Rattle.rules.specs.Claims.Lengths.{Bytes}
 use Rattle.rules.proofs.Tests.{either, branch, off, and-left, and-right, and-both, and-end, and-other, each-true, by-order, by-equal}
-use Rattle.rules.proofs.Lists.{length-splice, splice-before, splice-in, splice-after, length-part, getD-part}
+use Rattle.rules.proofs.Lists.{length-splice, splice-in, splice-after, length-part, getD-part}
 use Rattle.rules.proofs.Slots.{Sound, slot-from, object-length, capacity-small, put-before}
 use Rattle.rules.proofs.Refs.{refs-onto}
 use Rattle.rules.proofs.WellFormed.{wf-tests, wf-size, wf-sound}
@@ -167,11 +168,11 @@ pub held-fits : (st : State) → Fine st → heldLength (st .session) ≤ workSi
 held-fits st f = held-fits-by (st .session .chain) (st .session .rest) (f .chain) (f .rest) (f .apart)
 
 -- with a rest there is no chain, and with a chain no rest
-no-chain : (c : Chain) (r : Rest) → not (chainOpen c && restHeld r) ≡ true → restHeld r ≡ true → chainLength c ≡ 0
+pub no-chain : (c : Chain) (r : Rest) → not (chainOpen c && restHeld r) ≡ true → restHeld r ≡ true → chainLength c ≡ 0
 no-chain Shut r o e = refl
 no-chain (Open ins p1 p2 n) r o e = absurd (false≢true (sym (ap not e) ∙ o))
 
-no-rest : (c : Chain) (r : Rest) → not (chainOpen c && restHeld r) ≡ true → chainOpen c ≡ true → wholeLength r ≡ 0
+pub no-rest : (c : Chain) (r : Rest) → not (chainOpen c && restHeld r) ≡ true → chainOpen c ≡ true → wholeLength r ≡ 0
 no-rest c Gone o e = refl
 no-rest Shut (Left whole k) o e = absurd (false≢true e)
 no-rest (Open ins p1 p2 n) (Left whole k) o e = absurd (false≢true o)
@@ -399,7 +400,7 @@ pub record Starts (s : List ℕ) (ss : Session) (st : State) : Type 0 where
   pub store : st .store ≡ s
   pub calm : challengeHeld (st .session .challenge) ≡ challengeHeld (ss .challenge)
 
-goes-open : (c : Chain) (h : Header) → goesOn c h ≡ true → chainOpen c ≡ true
+pub goes-open : (c : Chain) (h : Header) → goesOn c h ≡ true → chainOpen c ≡ true
 unfolding goesOn
 goes-open Shut h e = e
 goes-open (Open ins p1 p2 n) h e = refl
@@ -781,7 +782,7 @@ module _ (st : State) (f : Fine st) (none : heldLength (st .session) ≡ 0) wher
       (send-kept st f none le (tlv 0x7C (tlv 0x82 r)) (omega (arith, tlv-short 0x7C (tlv 0x82 r), tlv-short 0x82 r, result-short key alg r (fit b))))
 
 -- with a job open nothing is held
-none-open : (c : Chain) (r : Rest) (h : Bool) → not (chainOpen c || restHeld r || h) ≡ true → chainLength c + wholeLength r ≡ 0
+pub none-open : (c : Chain) (r : Rest) (h : Bool) → not (chainOpen c || restHeld r || h) ≡ true → chainLength c + wholeLength r ≡ 0
 none-open Shut Gone h e = refl
 none-open Shut (Left whole k) h e = absurd (false≢true e)
 none-open (Open ins p1 p2 n) r h e = absurd (false≢true e)

@@ -10,21 +10,20 @@
 -- Assumes nothing.
 use mathlib.Core.Path.{_≡_, refl, ap, sym, _∙_, subst}
 use mathlib.Core.Bool.{Bool, true, false, _||_}
-use mathlib.Core.List.{List, [], _∷_, _++_}
-use Prim.Native.Nat.{ℕ, zero, suc, _+_, _-_, _*_, _/_, _%_, _^_, _≤_, _<_}
+use mathlib.Core.List.{List, _∷_, _++_}
+use Prim.Native.Nat.{ℕ, zero, suc, _+_, _-_, _/_, _%_, _≤_, _<_}
 use native.Mathlib.Omega.{arith}
-use native.Mathlib.Numerals.{add-one}
-use native.Mathlib.Nat.{add-zero, add-assoc}
-use lib.Dec.{ltb, leb, eqb}
+use native.Mathlib.Nat.{add-assoc}
+use lib.Dec.{ltb, eqb}
 use lib.ListN.{length, getD, length-append}
 use lib.Seq.{getD-append-seam, getD-append-add}
-use borrow.Author.Tests.{lt-ltb, le-ltb, le-leb, lt-leb, eq-eqb, ne-eqb, eqb-true, eqb-false, ltb-true, ltb-false}
+use borrow.Author.Tests.{lt-ltb, le-ltb, le-leb, lt-leb, eq-eqb, ne-eqb, eqb-true, eqb-false, ltb-false}
 use Rattle.rules.specs.declared.Length.{Length}
 use Rattle.rules.specs.declared.Length.the-variants.{Is, Bad}
 use Rattle.rules.specs.Bytes.{iff, part, word, be16}
-use Rattle.rules.specs.Ber.{bits, lengthBytes, lengthForm, berLength, announced, lengthValue, lengthIn, lengthAt}
-use Rattle.rules.specs.Claims.Lengths.{room, Bytes, Rule, Holds}
-use Rattle.rules.proofs.Tests.{on, off, or-none, by-order, by-equal}
+use Rattle.rules.specs.Ber.{lengthBytes, lengthForm, berLength, announced, lengthValue, lengthIn, lengthAt}
+use Rattle.rules.specs.Claims.Lengths.{room, Bytes, Holds}
+use Rattle.rules.proofs.Tests.{on, off, or-none}
 use Rattle.rules.proofs.Lists.{part-none, part-cons}
 use Rattle.rules.proofs.Bits.{few-bits, many-bits}
 

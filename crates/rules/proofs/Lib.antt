@@ -16,6 +16,7 @@ pub mod Secrecy
 pub mod Reading
 pub mod Pieces
 pub mod Gathered
+pub mod Working
 pub mod ReadBack
 pub mod Refusals
 pub mod Starred

@@ -4,7 +4,8 @@
 --   splice-before splice-in splice-after    what stands before, in and after the stretch
 --   length-part getD-part  the length of a part, and what stands in it
 --   part-ext               two rows that agree on a stretch have the same part there
---   part-apart part-there  a part apart from the stretch stays, and the stretch reads back
+--   part-apart             a part apart from the stretch stays
+--   take-splice            a row up to the end of the stretch
 --   splice-part            a stretch replaced by itself
 --   splice-again           a stretch replaced twice
 --   splice-apart           two stretches apart from each other, in either order
@@ -19,7 +20,7 @@
 use mathlib.Core.Path.{_≡_, refl, ap, ap₂, sym, _∙_, subst}
 use mathlib.Core.Logic.{_⊎_, inl, inr, ⊎-elim}
 use mathlib.Core.Bool.{Bool, true, false, _&&_, true≢false, false≢true}
-use mathlib.Core.List.{List, [], _∷_, _++_}
+use mathlib.Core.List.{List, [], _∷_, _++_, append-assoc}
 use Prim.Native.Nat.{ℕ, zero, suc, _+_, _-_, _≤_, _<_}
 use native.Mathlib.Omega.{arith}
 use native.Mathlib.Numerals.{add-one}
@@ -84,12 +85,11 @@ module _ (s v : List ℕ) (at : ℕ) (fits : at + length v ≤ length s) where
       part-ext (splice s at v) s a n (rw (length-splice s v at fits) h) h
       λ j p q. ⊎-elim (λ u. splice-before s v at fits j (omega arith)) (λ u. splice-after s v at fits j (omega arith)) o
 
-  pub part-there : part (splice s at v) at (length v) ≡ v
-  part-there =
-      let f : at + length v ≤ length (splice s at v) = rw (length-splice s v at fits) fits in
-      ext-getD 0 (part (splice s at v) at (length v)) v (length-part (splice s at v) at (length v) f)
-      λ k h. let hk : k < length v = rw (length-part (splice s at v) at (length v) f) at h in
-      getD-part (splice s at v) at (length v) f k hk ∙ splice-in s v at fits k hk
+pub take-splice : (s v : List ℕ) (at : ℕ) → at ≤ length s → take (at + length v) (splice s at v) ≡ take at s ++ v
+unfolding splice
+take-splice s v at h =
+    ap (take (at + length v)) (sym (append-assoc (take at s) v (drop (at + length v) s)))
+    ∙ take-at (take at s ++ v) _ (at + length v) (length-append (take at s) v ∙ ap (λ (n : ℕ). n + length v) (length-take-le at s h))
 
 pub part-none : (s : List ℕ) (at : ℕ) → part s at 0 ≡ []
 unfolding part

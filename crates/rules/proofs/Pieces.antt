@@ -7,21 +7,18 @@
 --
 -- Assumes nothing.
 use mathlib.Core.Path.{_≡_, refl, ap, ap₂, sym, _∙_, subst}
-use mathlib.Core.Bool.{Bool, true, false, not, _&&_, _||_, true≢false, false≢true}
+use mathlib.Core.Bool.{Bool, true, false}
 use mathlib.Core.List.{List, [], _∷_, _++_, append-nil, append-assoc}
-use Prim.Native.Nat.{ℕ, zero, suc, _+_, _-_, _*_, _/_, _%_, _≤_, _<_}
+use Prim.Native.Nat.{ℕ, _+_, _-_, _/_, _%_, _≤_, _<_}
 use native.Mathlib.Omega.{arith}
-use lib.Dec.{ltb, leb, eqb}
-use lib.ListN.{length, take, drop, getD, length-append}
-use lib.Seq.{take-at, length-take-le, getD-append-add}
-use borrow.Author.Tests.{eqb-true, eqb-false, eq-eqb, ne-eqb, lt-leb, lt-ltb, le-ltb, not-false}
-use Rattle.rules.specs.declared.Length.{Length}
-use Rattle.rules.specs.declared.Length.the-variants.{Is, Bad}
-use Rattle.rules.specs.declared.Found.{Found}
-use Rattle.rules.specs.declared.Found.the-variants.{Value, Missing}
-use Rattle.rules.specs.declared.Put.{Put}
-use Rattle.rules.specs.declared.Put.the-variants.{Object, NoObject}
-use Rattle.rules.specs.Bytes.{iff, part, splice, be24}
+use lib.Dec.{eqb}
+use lib.ListN.{length, getD, length-append}
+use lib.Seq.{getD-append-add}
+use borrow.Author.Tests.{eqb-true, eq-eqb, lt-leb, le-ltb}
+use Rattle.rules.specs.declared.Length.the-variants.{Is}
+use Rattle.rules.specs.declared.Found.the-variants.{Value}
+use Rattle.rules.specs.declared.Put.the-variants.{Object}
+use Rattle.rules.specs.Bytes.{part, be24}
 use Rattle.rules.specs.Book.{book}
 use Rattle.rules.specs.Ber.{berLength, lengthAt, valueFrom, objectAt, ending, lastAt, tlv}
 use Rattle.rules.specs.Store.{slots, discovery, slotNamed, tagOf}

@@ -8,17 +8,16 @@
 --   finished-quiet         the result of a job
 --
 -- Assumes nothing.
-use mathlib.Core.Path.{_≡_, refl, ap, ap₂, sym, _∙_, subst}
-use mathlib.Core.Logic.{_⊎_, inl, inr}
-use mathlib.Core.Bool.{Bool, true, false, not, _&&_, _||_, true≢false, false≢true}
-use mathlib.Core.List.{List, [], _∷_, _++_}
+use mathlib.Core.Path.{_≡_, refl, ap, sym, _∙_, subst}
+use mathlib.Core.Logic.{inl, inr}
+use mathlib.Core.Bool.{Bool, true, false, true≢false, false≢true}
+use mathlib.Core.List.{List, [], _∷_}
 use Prim.Native.Nat.{ℕ, _+_, _-_, _≤_, _<_}
 use native.Mathlib.Omega.{arith}
-use lib.Dec.{ltb, leb, eqb}
-use lib.ListN.{length, take, drop, getD}
+use lib.Dec.{eqb}
+use lib.ListN.{length, getD}
 use borrow.Author.Tests.{ltb-true, not-false}
-use Rattle.rules.specs.declared.Chain.{Chain}
-use Rattle.rules.specs.declared.Chain.the-variants.{Shut, Open}
+use Rattle.rules.specs.declared.Chain.the-variants.{Shut}
 use Rattle.rules.specs.declared.Rest.{Rest}
 use Rattle.rules.specs.declared.Rest.the-variants.{Gone, Left}
 use Rattle.rules.specs.declared.Challenge.{Challenge}
@@ -38,20 +37,18 @@ use Rattle.rules.specs.declared.Checked.{Checked}
 use Rattle.rules.specs.declared.Checked.the-variants.{Passed, Failed}
 use Rattle.rules.specs.declared.Session.{Session}
 use Rattle.rules.specs.Bytes.{iff, part, splice}
-use Rattle.rules.specs.Ber.{tlv}
-use Rattle.rules.specs.Reference.{Reference, noneLeft, matches, charged, referenceAt, putReference}
-use Rattle.rules.specs.Store.{storeSize, slots, capacity, objectOf, takes, slotBytes, putObject, pinAt, pukAt, keyPlace, algorithmOf, wellFormed}
-use Rattle.rules.specs.Session.{State, state, inSession, holding, withPin, withAdmin, withChallenge, withJob, pinGiven, readable, chainLength}
-use Rattle.rules.specs.Command.{fieldOf, check, Told, responds, opensJob, Which, thePin, thePuk, Step, charge, equal, unequal, Wrote, nothing, inSlot, Made, tells, says}
-use Rattle.rules.specs.Held.{calm, dropped, send, fetch, goesOn, based, gathered, heldPiece, closed, piece}
+use Rattle.rules.specs.Reference.{noneLeft, charged, referenceAt}
+use Rattle.rules.specs.Store.{slots, capacity, objectOf, takes, slotBytes, putObject, pinAt, pukAt, keyPlace, algorithmOf, wellFormed}
+use Rattle.rules.specs.Session.{State, state, holding, withPin}
+use Rattle.rules.specs.Command.{fieldOf, Told, responds, Which, thePin, thePuk, Step, charge, unequal, Wrote, nothing, inSlot, Made, says}
+use Rattle.rules.specs.Held.{calm, dropped, send, fetch, based, gathered, heldPiece, closed, piece}
 use Rattle.rules.specs.Pin.{Refs, the, putThe, stepped, made, withGiven, after, Said, answer, triesWord, missed, verified, verifyGiven, verifyAsked, verifyEnded, verify, changed, changeOf, change, resetTo, resetGiven, reset, refsIn, refsOnto, refs, putRefs, onRefs}
-use Rattle.rules.specs.Objects.{template, select, askedIn, objectTag, giveObject, getSlot, getAsked, getData, getRest, getResponse, putForm, stored, putSlot, putWhole, putEach, putPiece, putData}
-use Rattle.rules.specs.Keys.{keyFits, authEach, contents, adminForm, keyForm, replied, opened, authAdmin, authKey, authIn, authForm, authWhole, authPiece, authenticate, challenged, answered, finished}
+use Rattle.rules.specs.Objects.{select, askedIn, giveObject, getSlot, getAsked, getData, getRest, getResponse, putForm, stored, putSlot, putWhole, putEach, putPiece, putData}
+use Rattle.rules.specs.Keys.{keyFits, authEach, contents, replied, opened, authAdmin, authKey, authIn, authForm, authWhole, authPiece, authenticate, challenged, answered, finished}
 use Rattle.rules.specs.Calls.{ruled, obeyed, command}
-use Rattle.rules.specs.Claims.Secrecy.{noEqual, secret, pinRead, Alike}
-use Rattle.rules.proofs.Lists.{length-splice}
+use Rattle.rules.specs.Claims.Secrecy.{noEqual, Alike}
 use Rattle.rules.proofs.Slots.{put-fits}
-use Rattle.rules.proofs.Refs.{Sized, refs-sized, onto-refs, onto-pin, onto-puk, charge-byte}
+use Rattle.rules.proofs.Refs.{refs-sized, onto-refs, onto-pin, onto-puk, charge-byte}
 use Rattle.rules.proofs.WellFormed.{wf-size, wf-sound}
 use Rattle.rules.proofs.StaysWell.{RefsOk, refs-ok, wf-put, wf-onto, verify-ok, change-ok, reset-ok}
 use Rattle.rules.proofs.Kept.{key-low, key-high, takes-fits}

@@ -1,37 +1,35 @@
 -- An object stored is what GET DATA and GET RESPONSEs hand back (specs/Claims/ReadBack).
 -- Assumes nothing.
 use mathlib.Core.Path.{_≡_, refl, ap, sym, _∙_, subst}
-use mathlib.Core.Bool.{Bool, true, false, not}
+use mathlib.Core.Bool.{false}
 use mathlib.Core.List.{List, [], _∷_}
 use Prim.Native.Nat.{ℕ, _+_, _-_, _≤_, _<_}
 use native.Mathlib.Omega.{arith}
-use lib.ListN.{length, getD}
-use lib.Dec.{eqb}
+use lib.ListN.{getD}
 use Rattle.rules.specs.declared.Header.{Header}
 use Rattle.rules.specs.declared.Checked.the-variants.{Passed}
 use Rattle.rules.specs.declared.Permit.{Permit}
 use Rattle.rules.specs.declared.Permit.the-variants.{Granted, Denied}
 use Rattle.rules.specs.declared.Put.{Put}
 use Rattle.rules.specs.declared.Put.the-variants.{Object, NoObject}
-use Rattle.rules.specs.declared.Session.{Session}
-use Rattle.rules.specs.Bytes.{iff, part, be16}
-use Rattle.rules.specs.Store.{slots, capacity, offset, slotLength, objectOf, putObject}
-use Rattle.rules.specs.Session.{State, state, jobOpen}
+use Rattle.rules.specs.Bytes.{be16}
+use Rattle.rules.specs.Store.{slots, offset, slotLength, objectOf}
+use Rattle.rules.specs.Session.{State, jobOpen}
 use Rattle.rules.specs.Command.{fieldOf, check, Wrote, nothing, inSlot, Made}
 use Rattle.rules.specs.Held.{calm, dropped, based, gathered, heldPiece, closed, piece}
 use Rattle.rules.specs.Objects.{putForm, stored, putSlot, putWhole, putPiece}
-use Rattle.rules.specs.Calls.{Call, powers, sends, permit, Result, delivered, granted, denied, decided, call}
+use Rattle.rules.specs.Calls.{Call, sends, permit, delivered, granted, denied, decided, call}
 use Rattle.rules.specs.Runs.{leaves, endOf}
 use Rattle.rules.specs.Claims.Invariants.{Plain, Each}
 use Rattle.rules.specs.Claims.ReadBack.{putField, putOpen, Pieces, Untouched, Answers, Replaced, Holds}
 use Rattle.rules.proofs.Tests.{either, by-equal}
 use Rattle.rules.proofs.Lists.{part-ext}
 use Rattle.rules.proofs.Slots.{Sound, slot-fits, slot-from, put-object, put-tail, put-object-other}
-use Rattle.rules.proofs.WellFormed.{wf-size, wf-sound}
+use Rattle.rules.proofs.WellFormed.{wf-sound}
 use Rattle.rules.proofs.Kept.{Well, Moved}
 use Rattle.rules.proofs.Invariants.{After, call-kept, start-well}
 use Rattle.rules.proofs.Reading.{answers}
-use Rattle.rules.proofs.Gathered.{command-put, Has, has-none, pieces-put}
+use Rattle.rules.proofs.Gathered.{command-put, has-none, pieces-put}
 
 -- ---- objects that stay
 

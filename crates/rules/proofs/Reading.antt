@@ -9,35 +9,32 @@
 --
 -- Assumes nothing.
 use mathlib.Core.Path.{_≡_, refl, ap, ap₂, sym, _∙_, subst}
-use mathlib.Core.Bool.{Bool, true, false, not, _&&_, _||_, true≢false, false≢true}
+use mathlib.Core.Bool.{Bool, true, false, not, _&&_, _||_}
 use mathlib.Core.List.{List, [], _∷_, _++_, map, append-nil, append-assoc}
 use Prim.Native.Nat.{ℕ, zero, suc, _+_, _-_, _*_, _/_, _%_, _≤_, _<_}
 use native.Mathlib.Omega.{arith}
-use lib.Dec.{ltb, leb, eqb}
-use lib.ListN.{length, take, drop, getD, length-append, length-drop, take-append-drop}
-use lib.Seq.{take-add, drop-drop, take-at, drop-at, take-all, drop-append-le, getD-append-add}
-use borrow.Author.Tests.{eqb-true, eqb-false, ne-eqb, eq-eqb, ltb-true, le-leb, lt-leb, lt-ltb, le-ltb, not-false}
-use Rattle.rules.specs.declared.Rest.{Rest}
-use Rattle.rules.specs.declared.Rest.the-variants.{Gone, Left}
+use lib.Dec.{ltb, eqb}
+use lib.ListN.{length, take, drop, getD, length-drop, take-append-drop}
+use lib.Seq.{take-add, drop-drop, take-at, drop-append-le, getD-append-add}
+use borrow.Author.Tests.{eqb-true, ne-eqb, eq-eqb, ltb-true, le-leb, lt-leb, lt-ltb, le-ltb}
+use Rattle.rules.specs.declared.Rest.the-variants.{Left}
 use Rattle.rules.specs.declared.Challenge.the-variants.{Unasked}
 use Rattle.rules.specs.declared.Chain.the-variants.{Shut}
-use Rattle.rules.specs.declared.Permit.the-variants.{Granted}
 use Rattle.rules.specs.declared.Session.{Session}
 use Rattle.rules.specs.Bytes.{iff, all, allBelow, part, splice, word, be16, be24}
 use Rattle.rules.specs.Book.{book}
 use Rattle.rules.specs.Ber.{tlv}
-use Rattle.rules.specs.Store.{Access, always, PIN, never, contactRead, contactlessRead, workSize, responseSize, slots, discovery, slotNamed, tagOf, objectOf, wellFormed}
-use Rattle.rules.specs.Session.{State, state, inSession, holding, withChallenge, allows, readable, chainLength, wholeLength, heldLength, jobOpen, possible}
-use Rattle.rules.specs.Command.{leOf, responds, Made, tells, says}
+use Rattle.rules.specs.Store.{Access, always, PIN, never, contactRead, contactlessRead, workSize, responseSize, slots, discovery, slotNamed, tagOf, objectOf}
+use Rattle.rules.specs.Session.{State, state, holding, withChallenge, allows, readable, jobOpen}
+use Rattle.rules.specs.Command.{responds, tells, says}
 use Rattle.rules.specs.Held.{calm, dropped, leftWord, send, fetch}
 use Rattle.rules.specs.Objects.{objectTag, giveObject, getSlot, getRest}
-use Rattle.rules.specs.Calls.{command, Call, sends, Result, illSession, shortResponse, interrupts, unasked, wrongResult, permit, toldBytes, toldAnswer, delivered, granted, decided, call}
+use Rattle.rules.specs.Calls.{command, Call, sends, Result, illSession, shortResponse, interrupts, unasked, wrongResult, toldBytes, toldAnswer, delivered, granted, decided, call}
 use Rattle.rules.specs.Runs.{leaves, run}
 use Rattle.rules.specs.Claims.Lengths.{Bytes}
-use Rattle.rules.specs.Claims.ReadBack.{Le, absent, byte, leBytes, wanted, LeOk, tagBytesOf, tagList, gets, more, dataIn, dataOf, wordIn, wordOf, joined, lastWord, Ask, AskOk, AsksOk, reading, Ends, Answers}
-use Rattle.rules.proofs.Tests.{on, off, and-left, and-right, at-each, by-order, by-equal, or-other}
-use Rattle.rules.proofs.Lists.{length-splice, length-part}
-use Rattle.rules.proofs.Kept.{Fine, Well, well-fine, fine-calm, fine-dropped, object-short, held-fits, length-zeroed}
+use Rattle.rules.specs.Claims.ReadBack.{Le, absent, byte, leBytes, wanted, LeOk, tagBytesOf, tagList, gets, more, dataOf, wordOf, joined, lastWord, Ask, AskOk, AsksOk, reading, Ends, Answers}
+use Rattle.rules.proofs.Tests.{on, off, and-left, and-right, at-each, or-other}
+use Rattle.rules.proofs.Kept.{Well, object-short}
 use Rattle.rules.proofs.Invariants.{lets-granted, call-kept}
 
 -- ---- a command that is not refused
@@ -286,10 +283,6 @@ module _ (st : State) (g : Well st) (j : jobOpen (st .session) ≡ false) (i : �
 
     begun-well : Bytes (gets i (a .le)) → wanted (a .le) < length d → Well begun
     begun-well by l = subst Well (begun-leaves l) (call-kept st g (sends (a .resp) (gets i (a .le))) by .well)
-
-    work-size : length (seen .work) ≡ workSize
-    unfolding calm
-    work-size = fine-dropped (calm st) (fine-calm st (well-fine st g j)) .size
 
     held-part : (n : ℕ) → n ≤ length d → part (splice (seen .work) 0 d) n (length d - n) ≡ drop n d
     unfolding part splice

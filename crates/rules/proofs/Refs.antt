@@ -15,21 +15,20 @@
 --   onto-pin onto-puk      the store after a change of one reference
 --
 -- Assumes nothing.
-use mathlib.Core.Path.{_≡_, refl, ap, ap₂, sym, _∙_, subst}
+use mathlib.Core.Path.{_≡_, refl, ap, ap₂, sym, _∙_}
 use mathlib.Core.Logic.{_⊎_, inl, inr, ⊎-elim}
 use mathlib.Core.Bool.{Bool}
-use mathlib.Core.List.{List, [], _∷_, _++_, append-nil}
+use mathlib.Core.List.{List, [], _∷_, append-nil}
 use Prim.Native.Nat.{ℕ, zero, suc, _+_, _-_, _≤_, _<_}
 use native.Mathlib.Omega.{arith}
-use lib.ListN.{length, take, drop, getD, length-append, List·getD-append}
-use lib.Seq.{ext-getD, getD-append-add}
+use lib.ListN.{length, getD}
+use lib.Seq.{ext-getD}
 use Rattle.rules.specs.Bytes.{part, splice}
 use Rattle.rules.specs.Reference.{Reference, referenceAt, putReference, charged, restored, renewed}
 use Rattle.rules.specs.Command.{Which, thePin, thePuk, Step, charge, equal, unequal, restore, newValue}
 use Rattle.rules.specs.Store.{pinAt, pukAt}
 use Rattle.rules.specs.Pin.{Refs, the, putThe, stepped, refsIn, refsOnto}
-use Rattle.rules.proofs.Tests.{by-order}
-use Rattle.rules.proofs.Lists.{length-splice, splice-before, splice-in, splice-after, length-part, getD-part, part-apart, part-there, part-cons, splice-part, splice-again, splice-apart, splice-within}
+use Rattle.rules.proofs.Lists.{length-splice, splice-before, splice-in, splice-after, length-part, getD-part, part-apart, part-cons, splice-part, splice-again, splice-apart, splice-within}
 
 -- ---- one reference at a place
 

@@ -1,7 +1,7 @@
 -- A found card tells its finder nothing (specs/Claims/Secrecy).
 -- Assumes nothing.
-use mathlib.Core.Path.{_≡_, refl, ap, sym, _∙_, subst}
-use mathlib.Core.Bool.{Bool, true, false, not}
+use mathlib.Core.Path.{_≡_, refl, ap, sym, subst}
+use mathlib.Core.Bool.{Bool, true, false}
 use mathlib.Core.List.{List, [], _∷_}
 use Prim.Native.Nat.{ℕ}
 use Rattle.rules.specs.declared.Permit.{Permit}
@@ -10,14 +10,13 @@ use Rattle.rules.specs.declared.Refusal.{Refusal}
 use Rattle.rules.specs.declared.Answer.{Answer}
 use Rattle.rules.specs.declared.Session.{Session}
 use Rattle.rules.specs.Reference.{referenceAt}
-use Rattle.rules.specs.Session.{State, state, cleared}
-use Rattle.rules.specs.Command.{thePin, thePuk, Step, nothing, Wrote, Made}
-use Rattle.rules.specs.Keys.{finished}
+use Rattle.rules.specs.Session.{state}
+use Rattle.rules.specs.Command.{thePin, thePuk, Step, Wrote, Made}
 use Rattle.rules.specs.Calls.{Call, powers, sends, finishes, permit, Result, outcome, reply, delivered, poweredOn, granted, keptSession, denied, decided, call}
 use Rattle.rules.specs.Runs.{leaves, run}
-use Rattle.rules.specs.Claims.Secrecy.{noEqual, NoneEqual, Alike, Same, AllSame, Holds}
-use Rattle.rules.proofs.Quiet.{Pair, Twin, twin, Quiet, tries-same, command-quiet, finished-quiet}
-use Rattle.rules.proofs.Invariants.{Lets, granted-lets}
+use Rattle.rules.specs.Claims.Secrecy.{noEqual, NoneEqual, Same, AllSame, Holds}
+use Rattle.rules.proofs.Quiet.{Pair, Twin, twin, tries-same, command-quiet, finished-quiet}
+use Rattle.rules.proofs.Invariants.{granted-lets}
 
 -- two results that show the same, with stores that are a pair
 data Shows : Result → Result → Type 0 where

@@ -13,17 +13,17 @@
 --   sound-put              it stays sound
 --
 -- Assumes nothing.
-use mathlib.Core.Path.{_≡_, refl, ap, sym, _∙_, subst}
+use mathlib.Core.Path.{_≡_, refl, ap, _∙_, subst}
 use mathlib.Core.Logic.{_⊎_, inl, inr, ⊎-elim}
-use mathlib.Core.Bool.{Bool, true, false, _&&_, _||_}
+use mathlib.Core.Bool.{Bool, true, _&&_, _||_}
 use mathlib.Core.List.{List, [], _∷_, _++_}
-use Prim.Native.Nat.{ℕ, zero, suc, _+_, _-_, _*_, _/_, _%_, _≤_, _<_}
+use Prim.Native.Nat.{ℕ, _+_, _-_, _/_, _%_, _≤_, _<_}
 use native.Mathlib.Omega.{arith}
-use lib.Dec.{ltb, leb, eqb}
+use lib.Dec.{leb, eqb}
 use lib.ListN.{length, getD, length-append, length-replicate, getD-replicate, List·getD-append}
 use lib.Seq.{getD-append-add, ext-getD}
 use borrow.Author.Tests.{eqb-true, leb-true}
-use Rattle.rules.specs.Bytes.{allBelow, part, splice, zeros, word, be16}
+use Rattle.rules.specs.Bytes.{allBelow, part, zeros, word, be16}
 use Rattle.rules.specs.Store.{storeSize, slots, capacity, offset, slotLength, objectOf, slotBytes, putObject}
 use Rattle.rules.proofs.Tests.{at-each, and-left, and-right, or-cases, by-equal}
 use Rattle.rules.proofs.Lists.{length-splice, splice-before, splice-in, splice-after, length-part, getD-part, part-ext}

@@ -8,24 +8,24 @@
 --   answer-ok verify-ok change-ok reset-ok    after what the rules on references say, they are
 --
 -- Assumes nothing.
-use mathlib.Core.Path.{_≡_, refl, ap, sym, _∙_, subst}
+use mathlib.Core.Path.{_≡_, refl, sym, _∙_, subst}
 use mathlib.Core.Logic.{_⊎_, inl, inr, ⊎-elim}
-use mathlib.Core.Bool.{Bool, true, false, not, _&&_, _||_, false≢true}
+use mathlib.Core.Bool.{Bool, true, false, _&&_, false≢true}
 use mathlib.Core.List.{List, [], _∷_}
 use Prim.Native.Nat.{ℕ, _+_, _-_, _≤_, _<_}
 use native.Mathlib.Omega.{arith}
 use lib.Dec.{leb, eqb}
-use lib.ListN.{length, take, drop, getD, length-take, length-drop}
+use lib.ListN.{length, take, drop, getD}
 use borrow.Author.Tests.{eqb-true, eq-eqb, leb-true, le-leb, not-false}
 use Rattle.rules.specs.declared.Header.{Header}
-use Rattle.rules.specs.Bytes.{iff, all, allBelow, sameBytes, part, splice, be16}
-use Rattle.rules.specs.Reference.{Reference, pinForm, pukForm, referenceOk, matches, noneLeft, charged, restored, renewed, referenceAt, putReference}
-use Rattle.rules.specs.Store.{storeSize, slots, capacity, offset, slotLength, pinAt, pukAt, algorithmOk, mark, slotOk, putObject, wellFormed}
-use Rattle.rules.specs.Command.{Which, thePin, thePuk, Step, charge, equal, unequal, restore, newValue}
+use Rattle.rules.specs.Bytes.{part, splice, be16}
+use Rattle.rules.specs.Reference.{Reference, pinForm, pukForm, referenceOk, charged, restored, renewed, referenceAt, putReference}
+use Rattle.rules.specs.Store.{storeSize, slots, capacity, offset, slotLength, pinAt, pukAt, slotOk, putObject, wellFormed}
+use Rattle.rules.specs.Command.{thePin, thePuk}
 use Rattle.rules.specs.Pin.{Refs, the, putThe, stepped, made, withGiven, after, Said, answer, missed, verified, verifyGiven, verifyAsked, verifyEnded, verify, changed, changeOf, change, resetTo, resetGiven, reset, refsIn, refsOnto}
 use Rattle.rules.proofs.Tests.{either, branch, and-left, and-right, and-both, all-below}
 use Rattle.rules.proofs.Lists.{length-splice, splice-before, splice-after, length-part, part-ext}
-use Rattle.rules.proofs.Slots.{Sound, slot-fits, slot-from, put-before, sound-put}
+use Rattle.rules.proofs.Slots.{Sound, slot-from, put-before, sound-put}
 use Rattle.rules.proofs.Refs.{Sized, refs-onto, onto-length}
 use Rattle.rules.proofs.WellFormed.{Wf, wf-tests, tests-wf, wf-size, wf-sound}
 

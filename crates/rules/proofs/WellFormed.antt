@@ -6,15 +6,15 @@
 --   wf-slot                the bytes of an object lie in the store
 --
 -- Assumes nothing.
-use mathlib.Core.Path.{_≡_, refl}
-use mathlib.Core.Bool.{Bool, true}
-use mathlib.Core.List.{List, [], _∷_}
+use mathlib.Core.Path.{_≡_}
+use mathlib.Core.Bool.{true}
+use mathlib.Core.List.{List}
 use Prim.Native.Nat.{ℕ, _+_, _≤_, _<_}
 use native.Mathlib.Omega.{arith}
 use lib.Dec.{eqb}
 use lib.ListN.{length, getD}
 use borrow.Author.Tests.{eqb-true, leb-true}
-use Rattle.rules.specs.Bytes.{allTrue, all, allBelow, sameBytes, part}
+use Rattle.rules.specs.Bytes.{all, allBelow, sameBytes, part}
 use Rattle.rules.specs.Reference.{pinForm, referenceOk, referenceAt}
 use Rattle.rules.specs.Store.{storeSize, slots, offset, slotLength, pinAt, pukAt, algorithmOk, mark, slotOk, storeTests, wellFormed}
 use Rattle.rules.proofs.Tests.{each-true, at-each}

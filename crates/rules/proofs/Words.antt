@@ -1,11 +1,11 @@
 -- Each command's status word is one of those that 01 lists for it (specs/Claims/Words).
 -- Assumes nothing.
-use mathlib.Core.Path.{_≡_, refl, ap, sym, _∙_, subst}
-use mathlib.Core.Bool.{Bool, true, false, not, _&&_, _||_, false≢true}
+use mathlib.Core.Path.{_≡_, refl, sym, subst}
+use mathlib.Core.Bool.{Bool, true, false, not, _&&_, _||_}
 use mathlib.Core.List.{List, [], _∷_}
-use Prim.Native.Nat.{ℕ, _+_, _-_, _≤_, _<_}
+use Prim.Native.Nat.{ℕ, _+_, _-_, _≤_}
 use native.Mathlib.Omega.{arith}
-use lib.Dec.{leb, ltb, eqb}
+use lib.Dec.{leb, eqb}
 use lib.ListN.{length}
 use borrow.Author.Tests.{le-leb, leb-true, leb-false}
 use Rattle.rules.specs.declared.Challenge.{Challenge}
@@ -27,7 +27,7 @@ use Rattle.rules.specs.declared.Checked.{Checked}
 use Rattle.rules.specs.declared.Checked.the-variants.{Passed, Failed}
 use Rattle.rules.specs.Bytes.{iff}
 use Rattle.rules.specs.Session.{State}
-use Rattle.rules.specs.Command.{Made, Told, responds, says, fieldOf, admit, parse, parseLong, admitted, check}
+use Rattle.rules.specs.Command.{Made, fieldOf, admit, parse, parseLong, admitted, check}
 use Rattle.rules.specs.Held.{calm, dropped, leftWord, send, fetch, piece}
 use Rattle.rules.specs.Reference.{Reference, referenceOk, charged}
 use Rattle.rules.specs.Store.{wellFormed}

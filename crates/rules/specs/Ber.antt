@@ -12,7 +12,7 @@
 --   tlv tag v          the object with that tag and value as it is written
 --
 -- Assumes nothing.
-use mathlib.Core.Bool.{Bool, true, false, _||_}
+use mathlib.Core.Bool.{_||_}
 use mathlib.Core.List.{List, [], _∷_, _++_}
 use Prim.Native.Nat.{ℕ, _+_, _-_}
 use lib.Count.{leadingZeros}

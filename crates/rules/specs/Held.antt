@@ -14,18 +14,16 @@
 --   piece st h d sw whole one piece: sw is what the rules for each piece say, `whole` the rules at the last
 --
 -- Assumes nothing.
-use mathlib.Core.Bool.{Bool, true, false, not, _&&_}
-use mathlib.Core.List.{List, [], _∷_, _++_}
+use mathlib.Core.Bool.{Bool, false, not, _&&_}
+use mathlib.Core.List.{List, _++_}
 use Prim.Native.Nat.{ℕ, _+_, _-_}
 use lib.Dec.{leb, eqb}
 use lib.ListN.{length, take}
 use Rattle.rules.specs.declared.Chain.{Chain}
 use Rattle.rules.specs.declared.Chain.the-variants.{Shut, Open}
-use Rattle.rules.specs.declared.Rest.{Rest}
 use Rattle.rules.specs.declared.Rest.the-variants.{Gone, Left}
 use Rattle.rules.specs.declared.Challenge.the-variants.{Unasked}
 use Rattle.rules.specs.declared.Header.{Header}
-use Rattle.rules.specs.declared.Session.{Session}
 use Rattle.rules.specs.Bytes.{iff, part, splice, zeroed}
 use Rattle.rules.specs.Session.{State, state, inSession, holding, withChallenge, chainLength, heldLength}
 use Rattle.rules.specs.Command.{Made, responds, tells, says}

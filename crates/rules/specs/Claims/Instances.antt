@@ -8,7 +8,7 @@
 --   stored                the card after them and a further power-on
 --   Holds                 the claim
 --
--- Assumes nothing.
+-- The premises of Working are those of Invariants. Assumes nothing.
 use mathlib.Core.Path.{_≡_}
 use mathlib.Core.Bool.{Bool, true, false}
 use mathlib.Core.List.{List, [], _∷_}

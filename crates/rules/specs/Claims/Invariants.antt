@@ -19,7 +19,7 @@ use Rattle.rules.specs.declared.Refusal.the-variants.{IllStore, IllSessi
 use Rattle.rules.specs.declared.Permit.the-variants.{Granted, Denied}
 use Rattle.rules.specs.declared.Session.{Session}
 use Rattle.rules.specs.Bytes.{zeros}
-use Rattle.rules.specs.Reference.{Reference, referenceAt}
+use Rattle.rules.specs.Reference.{referenceAt}
 use Rattle.rules.specs.Store.{workSize, pinAt, pukAt, wellFormed}
 use Rattle.rules.specs.Session.{State, state, heldLength, possible}
 use Rattle.rules.specs.Command.{thePin, thePuk, Step, charge, equal, unequal, restore, newValue}

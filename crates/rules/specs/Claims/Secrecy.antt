@@ -19,11 +19,10 @@ use Prim.Native.Nat.{ℕ, zero, suc, _+_}
 use lib.Dec.{ltb, leb}
 use lib.ListN.{length, getD}
 use Rattle.rules.specs.declared.Permit.the-variants.{Granted}
-use Rattle.rules.specs.declared.Reply.{Reply}
 use Rattle.rules.specs.declared.Session.{Session}
-use Rattle.rules.specs.Reference.{Reference, referenceAt}
+use Rattle.rules.specs.Reference.{referenceAt}
 use Rattle.rules.specs.Store.{Access, always, PIN, never, contactRead, slots, capacity, offset, pinAt, pukAt}
-use Rattle.rules.specs.Session.{State, state}
+use Rattle.rules.specs.Session.{state}
 use Rattle.rules.specs.Command.{Step, charge, equal, unequal, restore, newValue}
 use Rattle.rules.specs.Calls.{Call, powers, Result, permit}
 use Rattle.rules.specs.Runs.{run}
