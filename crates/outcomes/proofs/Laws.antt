@@ -7,9 +7,9 @@
 --   small-number by-answer a refusal's number; the text of an answer that is told by its form
 --
 -- Assumes nothing.
-use mathlib.Core.Path.{_≡_, refl, ap, sym, _∙_, subst}
+use mathlib.Core.Path.{_≡_, ap, sym, _∙_}
 use mathlib.Core.List.{List, [], _∷_, _++_}
-use Prim.Native.Nat.{ℕ, _+_, _*_, _≤_, _<_, min}
+use Prim.Native.Nat.{ℕ, _+_, _*_, _≤_, _<_}
 use native.Mathlib.Omega.{arith}
 use lib.ListN.{length, take, length-append, length-take}
 use Rattle.rules.specs.declared.Answer.{Answer}
@@ -21,11 +21,10 @@ use Rattle.rules.specs.declared.Session.{Session}
 use Rattle.rules.specs.Bytes.{splice}
 use Rattle.rules.specs.Calls.{refusalNumber}
 use Rattle.octets.proofs.Laws.{splice-cons}
-use Rattle.text.specs.Text.{hexOf}
 use Rattle.text.proofs.Laws.{length-hex}
 use Rattle.packed.specs.Packed.{packed}
 use Rattle.packed.proofs.Laws.{packed-length}
-use Rattle.sums.specs.Sums.{sumOf, decimalOf}
+use Rattle.sums.specs.Sums.{sumOf}
 use Rattle.sums.proofs.Laws.{wrote-then, length-decimal}
 use Rattle.outcomes.specs.Outcomes.{kind, sessionText, sumText, outcomeLine}
 

@@ -16,7 +16,7 @@ use lib.Dec.{ltb}
 use lib.ListN.{length, drop, getD, drop-of-length-le, length-append}
 use lib.Seq.{drop-cons}
 use borrow.Author.Tests.{lt-ltb, le-ltb}
-use Rattle.rules.specs.Bytes.{iff, splice}
+use Rattle.rules.specs.Bytes.{splice}
 use Rattle.rules.proofs.Tests.{on, off, either}
 use Rattle.rules.proofs.Lists.{part-none, splice-part}
 use Rattle.octets.proofs.Laws.{splice-next}

@@ -4,7 +4,7 @@
 --   scan-at scan-end       a number read on at a place, and at the end of the line
 --
 -- Assumes nothing.
-use mathlib.Core.Path.{_≡_, refl, ap, sym, _∙_}
+use mathlib.Core.Path.{_≡_, ap, sym, _∙_}
 use mathlib.Core.Bool.{true}
 use mathlib.Core.List.{List}
 use Prim.Native.Nat.{ℕ, _+_, _≤_, _<_}
@@ -16,7 +16,6 @@ use lib.Seq.{drop-cons}
 use borrow.Author.Tests.{leb-true}
 use Rattle.rules.specs.Bytes.{iff}
 use Rattle.rules.proofs.Tests.{and-left}
-use Rattle.verbs.specs.declared.Number.{Number}
 use Rattle.verbs.specs.declared.Number.the-variants.{Count, Countless}
 use Rattle.verbs.specs.Verbs.{isFigure, grown, scan}
 

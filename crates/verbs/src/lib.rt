@@ -1,7 +1,6 @@
 // Verbs: the first words of a line of the program probe, and where the hex behind them begins.
 ghost use mathlib.Core.Path.{_≡_};
 ghost use Prim.Native.Nat.{_≤_};
-ghost use lib.ListN.{length};
 ghost use Rattle.verbs.specs.Verbs.{bufferAt, isFigure, numberAt, verbOf};
 ghost use Rattle.verbs.specs.Verbs.{starts as Verbs·starts, grown as Verbs·grown, putOf as Verbs·putOf, lendOf as Verbs·lendOf};
 

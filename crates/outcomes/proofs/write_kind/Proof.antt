@@ -1,14 +1,10 @@
 -- By the answer.
 -- Assumes nothing.
-use mathlib.Core.Path.{_≡_, refl, ap, sym, subst, _∙_}
-use mathlib.Core.List.{List, [], _∷_}
-use Prim.Native.Nat.{ℕ, _+_, _≤_}
+use mathlib.Core.Path.{refl, ap, _∙_}
+use mathlib.Core.List.{[], _∷_}
+use Prim.Native.Nat.{ℕ, _+_}
 use denote.Ref.{now}
-use lib.ListN.{length}
-use Rattle.rules.specs.declared.Answer.{Answer}
-use Rattle.rules.specs.declared.Refusal.{Refusal}
 use Rattle.rules.specs.Bytes.{splice}
-use Rattle.rules.specs.Calls.{refusalNumber}
 use Rattle.outcomes.specs.Outcomes.{kind}
 use Rattle.outcomes.proofs.Laws.{small-number, by-answer}
 use native.Mathlib.Omega.{arith}

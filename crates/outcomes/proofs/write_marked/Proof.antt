@@ -1,6 +1,5 @@
 -- The character, and the hex right behind it.
 -- Assumes nothing.
-use Prim.Native.Nat.{_+_}
 use denote.Ref.{now}
 use Rattle.text.specs.Text.{hexOf}
 use Rattle.text.proofs.Laws.{length-hex}

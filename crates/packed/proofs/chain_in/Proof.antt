@@ -1,6 +1,6 @@
 -- Its mark, and its fields.
 -- Assumes nothing.
-use mathlib.Core.Path.{sym, ap, ap₂, _∙_}
+use mathlib.Core.Path.{sym, ap, _∙_}
 use denote.Ref.{now}
 use lib.ListN.{getD}
 use Rattle.rules.specs.declared.Chain.the-variants.{Open}

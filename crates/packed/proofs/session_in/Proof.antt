@@ -1,18 +1,16 @@
 -- 64 bytes that come back the same.
 -- Assumes nothing.
-use mathlib.Core.Path.{_≡_, sym, ap, ap₂, _∙_}
-use mathlib.Core.Bool.{Bool, true, false}
+use mathlib.Core.Path.{sym, ap, _∙_}
 use mathlib.Core.List.{List}
 use Prim.Native.Nat.{ℕ}
 use denote.Ref.{now}
 use lib.Dec.{eqb}
 use lib.ListN.{length}
 use borrow.Author.Tests.{eq-eqb, ne-eqb}
-use Rattle.rules.specs.declared.Session.{Session}
 use Rattle.rules.specs.Bytes.{sameBytes}
 use Rattle.rules.proofs.Tests.{on, off, passes, fails, and-both, and-off-left, and-off-right}
 use Rattle.packed.specs.declared.Taken.the-variants.{Is}
-use Rattle.packed.specs.Packed.{packed, unpacked, sessionIn}
+use Rattle.packed.specs.Packed.{packed, sessionIn}
 use borrow.Author.Needs.{needs}
 use Rattle.packed.proofs.session_in.Statement.{statement}
 use Rattle.packed.proofs.session_in.Tie as tie

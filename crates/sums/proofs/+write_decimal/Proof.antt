@@ -1,6 +1,6 @@
 -- The digits of a tenth, and the last digit behind them. What falls is the number of digits that there is room for.
 -- Assumes nothing.
-use mathlib.Core.Path.{_≡_, ap, sym, _∙_}
+use mathlib.Core.Path.{ap, sym, _∙_}
 use mathlib.Core.List.{List, [], _∷_}
 use Prim.Native.Nat.{_+_, _-_, _/_, _%_, _≤_}
 use denote.Ref.{now}
