@@ -1,9 +1,9 @@
 -- Laws: the parts of an outcome's line, and their lengths.
 --
 --   marked                 a character, and the hex of a row behind it
---   kind-length session-length sum-length    how long each part is
+--   kind-length session-length sum-length sums-length    how long each part is
 --   take-few               a start of a row is not longer
---   line-parts             the parts, one behind the other
+--   sums-parts line-parts  the parts, one behind the other
 --   small-number by-answer a refusal's number; the text of an answer that is told by its form
 --
 -- Assumes nothing.
@@ -26,7 +26,7 @@ use Rattle.packed.specs.Packed.{packed}
 use Rattle.packed.proofs.Laws.{packed-length}
 use Rattle.sums.specs.Sums.{sumOf}
 use Rattle.sums.proofs.Laws.{wrote-then, length-decimal}
-use Rattle.outcomes.specs.Outcomes.{kind, sessionText, sumText, outcomeLine}
+use Rattle.outcomes.specs.Outcomes.{kind, sessionText, sumText, sumsText, outcomeLine}
 
 pub marked : (d x y v : List ℕ) (at b n : ℕ) → at < length d → x ≡ splice d at (b ∷ []) → (n ≡ at + 1 + length v) × (y ≡ splice x (at + 1) v)
     → (n ≡ at + length (b ∷ v)) × (y ≡ splice d at (b ∷ v))
@@ -54,37 +54,45 @@ sum-length s = omega (arith, length-decimal 10 (sumOf s))
 
 -- ---- one part behind the other
 
-pub line-parts : (r : Reply) (s w p d x₁ x₂ x₃ x₄ x₅ x₆ : List ℕ) (n₁ n₂ n₃ n₄ n₅ : ℕ) → 2 * length p + 200 ≤ length d
-    → (n₁ ≡ length (kind (r .answer) p)) × (x₁ ≡ splice d 0 (kind (r .answer) p))
-    → (n₂ ≡ n₁ + length (sessionText (r .session))) × (x₂ ≡ splice x₁ n₁ (sessionText (r .session)))
-    → (n₃ ≡ n₂ + length (sumText s)) × (x₃ ≡ splice x₂ n₂ (sumText s))
-    → (n₄ ≡ n₃ + length (sumText w)) × (x₄ ≡ splice x₃ n₃ (sumText w))
-    → (n₅ ≡ n₄ + length (sumText p)) × (x₅ ≡ splice x₄ n₄ (sumText p))
-    → x₆ ≡ splice x₅ n₅ (10 ∷ [])
-    → (n₅ + 1 ≡ length (outcomeLine r s w p)) × (x₆ ≡ splice d 0 (outcomeLine r s w p))
-unfolding outcomeLine
-line-parts r s w p d x₁ x₂ x₃ x₄ x₅ x₆ n₁ n₂ n₃ n₄ n₅ h e₁ e₂ e₃ e₄ e₅ e₆ =
-    let u₁ : List ℕ = kind (r .answer) p in
-    let v₂ : List ℕ = sessionText (r .session) in
-    let v₃ : List ℕ = sumText s in
-    let v₄ : List ℕ = sumText w in
-    let v₅ : List ℕ = sumText p in
-    let l₁ : length u₁ ≤ 7 + 2 * length p = kind-length (r .answer) p in
-    let l₂ : length v₂ ≡ 129 = session-length (r .session) in
-    let l₃ : length v₃ ≤ 11 = sum-length s in
-    let l₄ : length v₄ ≤ 11 = sum-length w in
-    let l₅ : length v₅ ≤ 11 = sum-length p in
-    let m₂ : length (u₁ ++ v₂) ≡ length u₁ + length v₂ = length-append u₁ v₂ in
-    let m₃ : length (u₁ ++ v₂ ++ v₃) ≡ length (u₁ ++ v₂) + length v₃ = length-append (u₁ ++ v₂) v₃ in
-    let m₄ : length (u₁ ++ v₂ ++ v₃ ++ v₄) ≡ length (u₁ ++ v₂ ++ v₃) + length v₄ = length-append (u₁ ++ v₂ ++ v₃) v₄ in
-    let m₅ : length (u₁ ++ v₂ ++ v₃ ++ v₄ ++ v₅) ≡ length (u₁ ++ v₂ ++ v₃ ++ v₄) + length v₅ = length-append (u₁ ++ v₂ ++ v₃ ++ v₄) v₅ in
-    let p₁ : (n₁ ≡ 0 + length u₁) × (x₁ ≡ splice d 0 u₁) = (omega (arith, e₁ .0), e₁ .1) in
-    let p₂ = wrote-then d x₁ x₂ u₁ v₂ 0 n₁ n₂ p₁ e₂ (omega arith) in
-    let p₃ = wrote-then d x₂ x₃ (u₁ ++ v₂) v₃ 0 n₂ n₃ p₂ e₃ (omega arith) in
-    let p₄ = wrote-then d x₃ x₄ (u₁ ++ v₂ ++ v₃) v₄ 0 n₃ n₄ p₃ e₄ (omega arith) in
-    let p₅ = wrote-then d x₄ x₅ (u₁ ++ v₂ ++ v₃ ++ v₄) v₅ 0 n₄ n₅ p₄ e₅ (omega arith) in
-    let p₆ = wrote-then d x₅ x₆ (u₁ ++ v₂ ++ v₃ ++ v₄ ++ v₅) (10 ∷ []) 0 n₅ (n₅ + 1) p₅ (omega arith, e₆) (omega arith) in
-    (omega (arith, p₆ .0), p₆ .1)
+module _ (s w p : List ℕ) where
+  pub sums-length : length (sumsText s w p) ≤ 33
+  unfolding sumsText
+  sums-length =
+      omega (arith, length-append (sumText s ++ sumText w) (sumText p), length-append (sumText s) (sumText w), sum-length s, sum-length w, sum-length p)
+
+  pub sums-parts : (d x₁ x₂ x₃ : List ℕ) (at n₁ n₂ n₃ : ℕ) → at + 33 ≤ length d
+      → (n₁ ≡ at + length (sumText s)) × (x₁ ≡ splice d at (sumText s))
+      → (n₂ ≡ n₁ + length (sumText w)) × (x₂ ≡ splice x₁ n₁ (sumText w))
+      → (n₃ ≡ n₂ + length (sumText p)) × (x₃ ≡ splice x₂ n₂ (sumText p))
+      → (n₃ ≡ at + length (sumsText s w p)) × (x₃ ≡ splice d at (sumsText s w p))
+  unfolding sumsText
+  sums-parts d x₁ x₂ x₃ at n₁ n₂ n₃ h e₁ e₂ e₃ =
+      let l₁ = sum-length s in
+      let l₂ = sum-length w in
+      let m : length (sumText s ++ sumText w) ≡ length (sumText s) + length (sumText w) = length-append (sumText s) (sumText w) in
+      let q = wrote-then d x₁ x₂ (sumText s) (sumText w) at n₁ n₂ e₁ e₂ (omega (arith, l₁)) in
+      wrote-then d x₂ x₃ (sumText s ++ sumText w) (sumText p) at n₂ n₃ q e₃ (omega (arith, l₁, l₂))
+
+  pub line-parts : (r : Reply) (d x₁ x₂ x₃ x₄ : List ℕ) (n₁ n₂ n₃ : ℕ) → 2 * length p + 200 ≤ length d
+      → (n₁ ≡ length (kind (r .answer) p)) × (x₁ ≡ splice d 0 (kind (r .answer) p))
+      → (n₂ ≡ n₁ + length (sessionText (r .session))) × (x₂ ≡ splice x₁ n₁ (sessionText (r .session)))
+      → (n₃ ≡ n₂ + length (sumsText s w p)) × (x₃ ≡ splice x₂ n₂ (sumsText s w p))
+      → x₄ ≡ splice x₃ n₃ (10 ∷ [])
+      → (n₃ + 1 ≡ length (outcomeLine r s w p)) × (x₄ ≡ splice d 0 (outcomeLine r s w p))
+  unfolding outcomeLine
+  line-parts r d x₁ x₂ x₃ x₄ n₁ n₂ n₃ h e₁ e₂ e₃ e₄ =
+      let u : List ℕ = kind (r .answer) p in
+      let v : List ℕ = sessionText (r .session) in
+      let z : List ℕ = sumsText s w p in
+      let l₁ : length u ≤ 7 + 2 * length p = kind-length (r .answer) p in
+      let l₂ : length v ≡ 129 = session-length (r .session) in
+      let m₂ : length (u ++ v) ≡ length u + length v = length-append u v in
+      let m₃ : length (u ++ v ++ z) ≡ length (u ++ v) + length z = length-append (u ++ v) z in
+      let q₁ : (n₁ ≡ 0 + length u) × (x₁ ≡ splice d 0 u) = (omega (arith, e₁ .0), e₁ .1) in
+      let q₂ = wrote-then d x₁ x₂ u v 0 n₁ n₂ q₁ e₂ (omega arith) in
+      let q₃ = wrote-then d x₂ x₃ (u ++ v) z 0 n₂ n₃ q₂ e₃ (omega (arith, sums-length)) in
+      let q₄ = wrote-then d x₃ x₄ (u ++ v ++ z) (10 ∷ []) 0 n₃ (n₃ + 1) q₃ (omega arith, e₄) (omega (arith, sums-length)) in
+      (omega (arith, q₄ .0), q₄ .1)
 
 -- ---- by the answer
 

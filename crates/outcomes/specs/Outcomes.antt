@@ -3,6 +3,7 @@
 --   kind a resp           R, J, N or P, and what belongs to it
 --   sessionText ss        a space, and the session's 64 bytes in hex
 --   sumText s             a space, and the sum of a buffer in decimal
+--   sumsText s w p        the sums of store, work area and response buffer
 --   outcomeLine r s w p   the whole line, with its end
 --
 -- Assumes nothing.
@@ -31,5 +32,8 @@ sessionText ss = 32 ∷ hexOf (packed ss)
 unfoldable pub sumText : List ℕ → List ℕ
 sumText s = 32 ∷ decimalOf 10 (sumOf s)
 
+unfoldable pub sumsText : List ℕ → List ℕ → List ℕ → List ℕ
+sumsText s w p = sumText s ++ sumText w ++ sumText p
+
 unfoldable pub outcomeLine : Reply → List ℕ → List ℕ → List ℕ → List ℕ
-outcomeLine r s w p = kind (r .answer) p ++ sessionText (r .session) ++ sumText s ++ sumText w ++ sumText p ++ (10 ∷ [])
+outcomeLine r s w p = kind (r .answer) p ++ sessionText (r .session) ++ sumsText s w p ++ (10 ∷ [])

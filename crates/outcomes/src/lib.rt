@@ -12,7 +12,7 @@ ghost use Rattle.rules.specs.declared.Answer.the-variants.{Response, JobOpened}
 ghost use Rattle.rules.specs.Bytes.{splice};
 ghost use Rattle.rules.specs.Calls.{refusalNumber};
 ghost use Rattle.text.specs.Text.{hexOf};
-ghost use Rattle.outcomes.specs.Outcomes.{kind, sessionText, sumText, outcomeLine};
+ghost use Rattle.outcomes.specs.Outcomes.{kind, sessionText, sumText, sumsText, outcomeLine};
 
 // A character, and bytes in hex behind it.
 fn write_marked(out: &mut [u8], at: usize, mark: u8, s: &[u8]) -> usize
@@ -92,6 +92,16 @@ fn write_sum(out: &mut [u8], at: usize, s: &[u8]) -> usize
     sums::write_decimal(out, at + 1, 10, sums::sum(s))
 }
 
+// The sums of store, work area and response buffer.
+fn write_sums(out: &mut [u8], at: usize, store: &[u8], work: &[u8], resp: &[u8]) -> usize
+    requires { ⌜ at + 33 ≤ length (now out) ⌝ }
+    ensures { λ r. ⌜ (r ≡ at + length (sumsText (now (store .entry)) (now (work .entry)) (now (resp .entry)))) × (now (out .exit) ≡ splice (now (out .entry)) at (sumsText (now (store .entry)) (now (work .entry)) (now (resp .entry)))) ⌝ }
+{
+    let store_end = write_sum(out, at, store);
+    let work_end = write_sum(out, store_end, work);
+    write_sum(out, work_end, resp)
+}
+
 pub fn write(out: &mut [u8], r: Reply, store: &[u8], work: &[u8], resp: &[u8]) -> usize
     requires { ⌜ 2 * length (now resp) + 200 ≤ length (now out) ⌝ }
     ensures { λ n. ⌜ (n ≡ length (outcomeLine r (now (store .entry)) (now (work .entry)) (now (resp .entry)))) × (now (out .exit) ≡ splice (now (out .entry)) 0 (outcomeLine r (now (store .entry)) (now (work .entry)) (now (resp .entry)))) ⌝ }
@@ -100,9 +110,7 @@ pub fn write(out: &mut [u8], r: Reply, store: &[u8], work: &[u8], resp: &[u8]) -
     let s = r.session;
     let kind_end = write_kind(out, a, resp);
     let session_end = write_session(out, kind_end, s);
-    let store_end = write_sum(out, session_end, store);
-    let work_end = write_sum(out, store_end, work);
-    let resp_end = write_sum(out, work_end, resp);
-    octets::put_byte(out, resp_end, b'\n');
-    resp_end + 1
+    let sums_end = write_sums(out, session_end, store, work, resp);
+    octets::put_byte(out, sums_end, b'\n');
+    sums_end + 1
 }

@@ -1,8 +1,8 @@
 -- One part behind the other.
 -- Assumes nothing.
 use denote.Ref.{now}
-use Rattle.outcomes.proofs.Laws.{kind-length, session-length, sum-length, line-parts}
 use native.Mathlib.Omega.{arith}
+use Rattle.outcomes.proofs.Laws.{kind-length, session-length, sums-length, line-parts}
 use borrow.Author.Needs.{needs}
 use Rattle.outcomes.proofs.write.Statement.{statement}
 use Rattle.outcomes.proofs.write.Tie as tie
@@ -11,31 +11,72 @@ write-kind-requires : tie.Need-write-kind-requires
 write-kind-requires c κs = search needs
 
 write-session-requires : tie.Need-write-session-requires
-write-session-requires c κs = omega (arith, kind-length (c .before .before .before .before .before .before .before .before .before .before .args .r .answer) (now (c .before .before .before .before .before .before .before .before .before .before .args .resp)), session-length (c .before .before .before .before .before .before .before .before .before .before .args .r .session), sum-length (now (c .before .before .before .before .before .before .before .before .before .before .args .store)), sum-length (now (c .before .before .before .before .before .before .before .before .before .before .args .work)), sum-length (now (c .before .before .before .before .before .before .before .before .before .before .args .resp)), c .before .before .before .before .before .before .before .before .before .before .pre, c .before .before .before .write-kind .ensures .0)
+write-session-requires c κs =
+    let kind = c .before .before .before in
+    let first = kind .before .before .before .before .before .before .before in
+    omega (arith, kind-length (first .args .r .answer) (now (first .args .resp)), kind .write-kind .ensures .0, first .pre)
 
-write-sum-requires : tie.Need-write-sum-requires
-write-sum-requires c κs = omega (arith, kind-length (c .before .before .before .before .before .before .before .before .before .before .before .before .before .before .args .r .answer) (now (c .before .before .before .before .before .before .before .before .before .before .before .before .before .before .args .resp)), session-length (c .before .before .before .before .before .before .before .before .before .before .before .before .before .before .args .r .session), sum-length (now (c .before .before .before .before .before .before .before .before .before .before .before .before .before .before .args .store)), sum-length (now (c .before .before .before .before .before .before .before .before .before .before .before .before .before .before .args .work)), sum-length (now (c .before .before .before .before .before .before .before .before .before .before .before .before .before .before .args .resp)), c .before .before .before .before .before .before .before .before .before .before .before .before .before .before .pre, c .before .before .before .before .before .before .before .write-kind .ensures .0, c .before .before .before .write-session .ensures .0)
-
-write-sum-requires-2 : tie.Need-write-sum-requires-2
-write-sum-requires-2 c κs = omega (arith, kind-length (c .before .before .before .before .before .before .before .before .before .before .before .before .before .before .before .before .before .before .args .r .answer) (now (c .before .before .before .before .before .before .before .before .before .before .before .before .before .before .before .before .before .before .args .resp)), session-length (c .before .before .before .before .before .before .before .before .before .before .before .before .before .before .before .before .before .before .args .r .session), sum-length (now (c .before .before .before .before .before .before .before .before .before .before .before .before .before .before .before .before .before .before .args .store)), sum-length (now (c .before .before .before .before .before .before .before .before .before .before .before .before .before .before .before .before .before .before .args .work)), sum-length (now (c .before .before .before .before .before .before .before .before .before .before .before .before .before .before .before .before .before .before .args .resp)), c .before .before .before .before .before .before .before .before .before .before .before .before .before .before .before .before .before .before .pre, c .before .before .before .before .before .before .before .before .before .before .before .write-kind .ensures .0, c .before .before .before .before .before .before .before .write-session .ensures .0, c .before .before .before .write-sum .ensures .0)
-
-write-sum-requires-3 : tie.Need-write-sum-requires-3
-write-sum-requires-3 c κs = omega (arith, kind-length (c .before .before .before .before .before .before .before .before .before .before .before .before .before .before .before .before .before .before .before .before .before .before .args .r .answer) (now (c .before .before .before .before .before .before .before .before .before .before .before .before .before .before .before .before .before .before .before .before .before .before .args .resp)), session-length (c .before .before .before .before .before .before .before .before .before .before .before .before .before .before .before .before .before .before .before .before .before .before .args .r .session), sum-length (now (c .before .before .before .before .before .before .before .before .before .before .before .before .before .before .before .before .before .before .before .before .before .before .args .store)), sum-length (now (c .before .before .before .before .before .before .before .before .before .before .before .before .before .before .before .before .before .before .before .before .before .before .args .work)), sum-length (now (c .before .before .before .before .before .before .before .before .before .before .before .before .before .before .before .before .before .before .before .before .before .before .args .resp)), c .before .before .before .before .before .before .before .before .before .before .before .before .before .before .before .before .before .before .before .before .before .before .pre, c .before .before .before .before .before .before .before .before .before .before .before .before .before .before .before .write-kind .ensures .0, c .before .before .before .before .before .before .before .before .before .before .before .write-session .ensures .0, c .before .before .before .before .before .before .before .write-sum .ensures .0, c .before .before .before .write-sum2 .ensures .0)
+write-sums-requires : tie.Need-write-sums-requires
+write-sums-requires c κs =
+    let session = c .before .before .before in
+    let kind = session .before .before .before .before in
+    let first = kind .before .before .before .before .before .before .before in
+    let a = first .args in
+    omega (arith, kind-length (a .r .answer) (now (a .resp)), session-length (a .r .session), kind .write-kind .ensures .0, session .write-session .ensures .0, first .pre)
 
 put-byte-requires : tie.Need-put-byte-requires
-put-byte-requires c κs = omega (arith, kind-length (c .before .before .before .before .before .before .before .before .before .before .before .before .before .before .before .before .before .before .before .before .before .before .before .before .before .before .args .r .answer) (now (c .before .before .before .before .before .before .before .before .before .before .before .before .before .before .before .before .before .before .before .before .before .before .before .before .before .before .args .resp)), session-length (c .before .before .before .before .before .before .before .before .before .before .before .before .before .before .before .before .before .before .before .before .before .before .before .before .before .before .args .r .session), sum-length (now (c .before .before .before .before .before .before .before .before .before .before .before .before .before .before .before .before .before .before .before .before .before .before .before .before .before .before .args .store)), sum-length (now (c .before .before .before .before .before .before .before .before .before .before .before .before .before .before .before .before .before .before .before .before .before .before .before .before .before .before .args .work)), sum-length (now (c .before .before .before .before .before .before .before .before .before .before .before .before .before .before .before .before .before .before .before .before .before .before .before .before .before .before .args .resp)), c .before .before .before .before .before .before .before .before .before .before .before .before .before .before .before .before .before .before .before .before .before .before .before .before .before .before .pre, c .before .before .before .before .before .before .before .before .before .before .before .before .before .before .before .before .before .before .before .write-kind .ensures .0, c .before .before .before .before .before .before .before .before .before .before .before .before .before .before .before .write-session .ensures .0, c .before .before .before .before .before .before .before .before .before .before .before .write-sum .ensures .0, c .before .before .before .before .before .before .before .write-sum2 .ensures .0, c .before .before .before .write-sum3 .ensures .0, c .before .before .before .before .before .before .before .before .before .before .before .before .before .before .before .before .before .before .before .write-kind .kept, c .before .before .before .before .before .before .before .before .before .before .before .before .before .before .before .write-session .kept, c .before .before .before .before .before .before .before .before .before .before .before .write-sum .kept, c .before .before .before .before .before .before .before .write-sum2 .kept, c .before .before .before .write-sum3 .kept)
+put-byte-requires c κs =
+    let sums = c .before .before .before in
+    let session = sums .before .before .before .before in
+    let kind = session .before .before .before .before in
+    let first = kind .before .before .before .before .before .before .before in
+    let a = first .args in
+    omega (
+      arith,
+      kind-length (a .r .answer) (now (a .resp)),
+      session-length (a .r .session),
+      sums-length (now (a .store)) (now (a .work)) (now (a .resp)),
+      kind .write-kind .ensures .0,
+      session .write-session .ensures .0,
+      sums .write-sums .ensures .0,
+      kind .write-kind .kept,
+      session .write-session .kept,
+      sums .write-sums .kept,
+      first .pre,
+    )
 
 add-result : tie.Need-add-result
-add-result c = omega (arith, kind-length (c .before .before .before .before .before .before .before .before .before .before .before .before .before .before .before .before .before .before .before .before .before .before .before .before .before .before .before .before .before .args .r .answer) (now (c .before .before .before .before .before .before .before .before .before .before .before .before .before .before .before .before .before .before .before .before .before .before .before .before .before .before .before .before .before .args .resp)), session-length (c .before .before .before .before .before .before .before .before .before .before .before .before .before .before .before .before .before .before .before .before .before .before .before .before .before .before .before .before .before .args .r .session), sum-length (now (c .before .before .before .before .before .before .before .before .before .before .before .before .before .before .before .before .before .before .before .before .before .before .before .before .before .before .before .before .before .args .store)), sum-length (now (c .before .before .before .before .before .before .before .before .before .before .before .before .before .before .before .before .before .before .before .before .before .before .before .before .before .before .before .before .before .args .work)), sum-length (now (c .before .before .before .before .before .before .before .before .before .before .before .before .before .before .before .before .before .before .before .before .before .before .before .before .before .before .before .before .before .args .resp)), c .before .before .before .before .before .before .before .before .before .before .before .before .before .before .before .before .before .before .before .before .before .before .before .before .before .before .before .before .before .pre, c .before .before .before .before .before .before .before .before .before .before .before .before .before .before .before .before .before .before .before .before .before .before .write-kind .ensures .0, c .before .before .before .before .before .before .before .before .before .before .before .before .before .before .before .before .before .before .write-session .ensures .0, c .before .before .before .before .before .before .before .before .before .before .before .before .before .before .write-sum .ensures .0, c .before .before .before .before .before .before .before .before .before .before .write-sum2 .ensures .0, c .before .before .before .before .before .before .write-sum3 .ensures .0, c .before .before .before .before .before .before .before .before .before .before .before .before .before .before .before .before .before .before .before .before .before .before .before .before .before .before .before .before .before .good)
+add-result c =
+    let sums = c .before .before .before .before .before .before in
+    let session = sums .before .before .before .before in
+    let kind = session .before .before .before .before in
+    let first = kind .before .before .before .before .before .before .before in
+    let a = first .args in
+    omega (
+      arith,
+      kind-length (a .r .answer) (now (a .resp)),
+      session-length (a .r .session),
+      sums-length (now (a .store)) (now (a .work)) (now (a .resp)),
+      kind .write-kind .ensures .0,
+      session .write-session .ensures .0,
+      sums .write-sums .ensures .0,
+      first .pre,
+      first .good,
+    )
 
 same-length : tie.Need-same-length
 same-length c = search needs
 
 returns : tie.Need-returns
 returns c =
-    let a = c .before .before .before .before .before .before .before .before .before .before .before .before .before .before .before .before .before .before .before .before .before .before .before .before .before .before .before .before .before .args in
-    line-parts (a .r) (now (a .store)) (now (a .work)) (now (a .resp)) (now (a .out)) _ _ _ _ _ _ _ _ _ _ _ (c .before .before .before .before .before .before .before .before .before .before .before .before .before .before .before .before .before .before .before .before .before .before .before .before .before .before .before .before .before .pre) (c .before .before .before .before .before .before .before .before .before .before .before .before .before .before .before .before .before .before .before .before .before .before .write-kind .ensures)
-    (c .before .before .before .before .before .before .before .before .before .before .before .before .before .before .before .before .before .before .write-session .ensures) (c .before .before .before .before .before .before .before .before .before .before .before .before .before .before .write-sum .ensures) (c .before .before .before .before .before .before .before .before .before .before .write-sum2 .ensures) (c .before .before .before .before .before .before .write-sum3 .ensures) (c .before .before .put-byte .ensures)
+    let put = c .before .before in
+    let sums = put .before .before .before .before in
+    let session = sums .before .before .before .before in
+    let kind = session .before .before .before .before in
+    let first = kind .before .before .before .before .before .before .before in
+    let a = first .args in
+    line-parts (now (a .store)) (now (a .work)) (now (a .resp)) (a .r) (now (a .out)) _ _ _ _ _ _ _
+    (first .pre) (kind .write-kind .ensures) (session .write-session .ensures) (sums .write-sums .ensures) (put .put-byte .ensures)
 
 pub write-spec : {M : Type 1} → statement M
 write-spec =
@@ -43,9 +84,7 @@ write-spec =
     (tie.spec
     write-kind-requires
     write-session-requires
-    write-sum-requires
-    write-sum-requires-2
-    write-sum-requires-3
+    write-sums-requires
     put-byte-requires
     add-result
     same-length
