@@ -55,18 +55,37 @@ put-requires-5 : tie.Need-put-requires-5
 put-requires-5 c κs = search needs
 
 zero-requires : tie.Need-zero-requires
-zero-requires c κs = omega (arith, c .before .before .before .put5 .kept, c .before .before .before .before .before .before .before .before .before .put4 .kept, c .before .before .before .before .before .before .before .before .before .before .before .before .before .before .before .put3 .kept, c .before .before .before .before .before .before .before .before .before .before .before .before .before .before .before .before .before .before .before .before .before .put2 .kept, c .before .before .before .before .before .before .before .before .before .before .before .before .before .before .before .before .before .before .before .before .before .before .before .before .before .before .before .put .kept, c .before .before .before .before .before .before .before .before .before .before .before .before .before .before .before .before .before .before .before .before .before .before .before .before .before .before .before .before .before .before .before .before .pre)
+zero-requires c κs =
+    let c3 = c .before .before .before in
+    let c9 = c3 .before .before .before .before .before .before in
+    let c15 = c9 .before .before .before .before .before .before in
+    let c21 = c15 .before .before .before .before .before .before in
+    let c27 = c21 .before .before .before .before .before .before in
+    let c32 = c27 .before .before .before .before .before in
+    omega (arith, c3 .put5 .kept, c9 .put4 .kept, c15 .put3 .kept, c21 .put2 .kept, c27 .put .kept, c32 .pre)
 
 same-length : tie.Need-same-length
 same-length c = search needs
 
 returns : tie.Need-returns
 returns c =
-    let a = c .before .before .before .before .before .before .before .before .before .before .before .before .before .before .before .before .before .before .before .before .before .before .before .before .before .before .before .before .before .before .before .before .before .before .before .args in
-    packed-parts (a .s) (now (a .dst)) _ _ _ _ _ _ (c .before .before .before .before .before .before .before .before .before .before .before .before .before .before .before .before .before .before .before .before .before .before .before .before .before .before .before .before .before .before .before .before .before .before .before .pre) (c .before .before .before .before .before .before .before .before .before .before .before .before .before .before .before .before .before .before .before .before .before .before .before .before .before .before .before .before .before .before .put .ensures ∙ ap (splice _ 0) (c .before .before .before .before .before .before .before .before .before .before .before .before .before .before .before .before .before .before .before .before .before .before .before .before .before .before .before .before .before .before .before .before .before .flag-bytes .ensures))
-    (c .before .before .before .before .before .before .before .before .before .before .before .before .before .before .before .before .before .before .before .before .before .before .before .before .put2 .ensures ∙ ap (splice _ 3) (c .before .before .before .before .before .before .before .before .before .before .before .before .before .before .before .before .before .before .before .before .before .before .before .before .before .before .before .chain-bytes .ensures)) (c .before .before .before .before .before .before .before .before .before .before .before .before .before .before .before .before .before .before .put3 .ensures ∙ ap (splice _ 9) (c .before .before .before .before .before .before .before .before .before .before .before .before .before .before .before .before .before .before .before .before .before .rest-bytes .ensures))
-    (c .before .before .before .before .before .before .before .before .before .before .before .before .put4 .ensures ∙ ap (splice _ 14) (c .before .before .before .before .before .before .before .before .before .before .before .before .before .before .before .challenge-bytes .ensures)) (c .before .before .before .before .before .before .put5 .ensures ∙ ap (splice _ 23) (c .before .before .before .before .before .before .before .before .before .job-bytes .ensures))
-    (c .before .before .zero .ensures)
+    let c2 = c .before .before in
+    let c6 = c2 .before .before .before .before in
+    let c9 = c6 .before .before .before in
+    let c12 = c9 .before .before .before in
+    let c15 = c12 .before .before .before in
+    let c18 = c15 .before .before .before in
+    let c21 = c18 .before .before .before in
+    let c24 = c21 .before .before .before in
+    let c27 = c24 .before .before .before in
+    let c30 = c27 .before .before .before in
+    let c33 = c30 .before .before .before in
+    let c35 = c33 .before .before in
+    let a = c35 .args in
+    packed-parts (a .s) (now (a .dst)) _ _ _ _ _ _ (c35 .pre) (c30 .put .ensures ∙ ap (splice _ 0) (c33 .flag-bytes .ensures))
+    (c24 .put2 .ensures ∙ ap (splice _ 3) (c27 .chain-bytes .ensures)) (c18 .put3 .ensures ∙ ap (splice _ 9) (c21 .rest-bytes .ensures))
+    (c12 .put4 .ensures ∙ ap (splice _ 14) (c15 .challenge-bytes .ensures)) (c6 .put5 .ensures ∙ ap (splice _ 23) (c9 .job-bytes .ensures))
+    (c2 .zero .ensures)
 
 pub pack-spec : {M : Type 1} → statement M
 pack-spec =
