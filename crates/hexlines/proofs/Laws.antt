@@ -16,8 +16,8 @@ use Rattle.rules.specs.Bytes.{splice, zeros}
 use Rattle.rules.specs.Session.{State}
 use Rattle.rules.specs.Calls.{Outcome, outcome, sends, call}
 use Rattle.rules.specs.Claims.Starred.{hex, fixed}
-use Rattle.rules.proofs.Lists.{join-start}
-use Rattle.octets.proofs.Laws.{length-zeros, splice-next, whole}
+use Rattle.rules.proofs.Lists.{splice-next, join-start}
+use Rattle.octets.proofs.Laws.{length-zeros, whole}
 use Rattle.text.specs.Text.{hexOf}
 use Rattle.text.proofs.Laws.{length-hex}
 use Rattle.hexlines.specs.HexLines.{closed, turn}

@@ -26,7 +26,7 @@ use Rattle.rules.specs.Command.{says}
 use Rattle.rules.specs.Held.{send}
 use Rattle.rules.specs.Keys.{resultOk, resultFits, challenged, answered, finished}
 use Rattle.rules.proofs.Tests.{on, off, and-right}
-use Rattle.octets.proofs.Laws.{splice-next}
+use Rattle.rules.proofs.Lists.{splice-next}
 use Rattle.heads.proofs.Laws.{one-to-three, length-ber, length-tlv}
 
 -- ---- heads

@@ -4,7 +4,6 @@
 --   length-zeros zeros-at  a row of zeros
 --   lent                   a part that was lent and came back as v
 --   splice-one             one byte stored
---   splice-next            two stretches replaced, the second right behind the first
 --   splice-cons            a byte, and a stretch right behind it
 --   whole                  a row replaced whole
 --   part-add               a part is its first k bytes and the j bytes behind them
@@ -17,18 +16,18 @@
 -- Assumes nothing.
 use mathlib.Core.Path.{_≡_, refl, sym, ap, _∙_}
 use mathlib.Core.Bool.{Bool, true, false, _&&_}
-use mathlib.Core.List.{List, [], _∷_, _++_, append-assoc, append-nil}
+use mathlib.Core.List.{List, [], _∷_, _++_, append-nil}
 use Prim.Native.Nat.{ℕ, zero, suc, _+_, _≤_, _<_}
 use native.Mathlib.Nat.{not-suc-le-zero, le-of-suc-le-suc, suc-add, zero-add}
 use native.Mathlib.Numerals.{add-one}
 use native.Mathlib.Omega.{arith}
 use lib.Dec.{eqb}
-use lib.ListN.{length, take, drop, set, getD, length-append, length-take, drop-of-length-le, length-replicate, getD-replicate}
-use lib.Seq.{take-all, take-at, take-add, take-take, take-nil, drop-at, drop-drop, drop-cons, set-split}
+use lib.ListN.{length, take, drop, set, getD, drop-of-length-le, length-replicate, getD-replicate}
+use lib.Seq.{take-all, take-add, take-take, take-nil, drop-drop, drop-cons, set-split}
 use borrow.Author.Tests.{eq-eqb, ne-eqb}
 use Rattle.rules.specs.Bytes.{all, sameBytes, part, splice, zeros}
 use Rattle.rules.proofs.Tests.{and-off-left}
-use Rattle.rules.proofs.Lists.{same-bytes}
+use Rattle.rules.proofs.Lists.{splice-next, same-bytes}
 
 -- ---- a row filled with the bytes of s
 
@@ -64,21 +63,6 @@ lent at k s v h = simp (drop-drop, h)
 pub splice-one : (s : List ℕ) (at b : ℕ) → at < length s → set s at b ≡ splice s at (b ∷ [])
 unfolding splice
 splice-one s at b h = rw add-one (set-split s at b h)
-
--- the first n bytes replaced change nothing behind them
-behind : (s p : List ℕ) (n m : ℕ) → length p ≡ n → drop (n + m) (p ++ drop n s) ≡ drop (n + m) s
-behind s p n m e = sym (drop-drop m n (p ++ drop n s)) ∙ ap (drop m) (drop-at p (drop n s) n e) ∙ drop-drop m n s
-
-pub splice-next : (s u v : List ℕ) (at : ℕ) → at + length u ≤ length s
-    → splice (splice s at u) (at + length u) v ≡ splice s at (u ++ v)
-unfolding splice
-splice-next s u v at h =
-    let n : ℕ = at + length u in
-    let p : List ℕ = take at s ++ u in
-    let lp : length p ≡ n = simp (length-append, length-take) (omega arith) in
-    let e : take at s ++ (u ++ drop n s) ≡ p ++ drop n s = sym (append-assoc (take at s) u (drop n s)) in
-    let w : n + length v ≡ at + length (u ++ v) = simp length-append (omega arith) in
-    rw (e, take-at p (drop n s) n lp, behind s p n (length v) lp, w) (simp append-assoc)
 
 pub splice-cons : (s x y v : List ℕ) (at b : ℕ) → at < length s
     → x ≡ splice s at (b ∷ []) → y ≡ splice x (at + 1) v → y ≡ splice s at (b ∷ v)

@@ -33,6 +33,7 @@ use Rattle.rules.specs.Pin.{Judgement, judgement}
 use Rattle.rules.specs.Calls.{Outcome, outcome}
 use Rattle.rules.specs.Claims.NoSecond.{Shows}
 use Rattle.rules.proofs.NoSecond.{no-second}
+use Rattle.rules.proofs.Cards.{fixed-well}
 use Rattle.octets.proofs.Laws.{length-zeros}
 use Rattle.tries.specs.declared.PinTries.{PinTries}
 use Rattle.tries.specs.declared.PukTries.{PukTries}
@@ -231,17 +232,13 @@ once-possible-possible κs a r q s t = alike r q
 
 -- ---- permit: for every store that is well formed or not, as the argument says; there is one of each
 
-well : wellFormed fixed ≡ true
-unfolding book fixed
-well = refl
-
 storeOf : Bool → List ℕ
 storeOf true = fixed
 storeOf false = []
 
 store-is : (b : Bool) → b ≡ wellFormed (storeOf b)
 unfolding storeOf book
-store-is true = sym well
+store-is true = sym fixed-well
 store-is false = refl
 
 once-permit-power-on : (κs : _) (a : _) (r q : Permit) (s t : _) → permit-power-on.Post κs a r s → permit-power-on.Post κs a q t → r ≡ q

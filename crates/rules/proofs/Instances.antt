@@ -5,9 +5,9 @@ use mathlib.Core.Bool.{Bool, true, false, not, _&&_, _||_, true≢false}
 use mathlib.Core.List.{List, [], _∷_, _++_}
 use Prim.Native.Nat.{ℕ, zero, suc, _+_, _-_, _≤_, _<_}
 use native.Mathlib.Omega.{arith}
-use lib.Dec.{ltb, leb}
+use lib.Dec.{ltb, leb, eqb}
 use lib.ListN.{length, getD, replicate, length-replicate}
-use borrow.Author.Tests.{le-leb, lt-ltb}
+use borrow.Author.Tests.{eqb-true, le-leb, lt-ltb}
 use Rattle.rules.specs.declared.Header.{Header}
 use Rattle.rules.specs.declared.Checked.the-variants.{Passed, Failed}
 use Rattle.rules.specs.declared.Chain.the-variants.{Open}
@@ -17,32 +17,35 @@ use Rattle.rules.specs.declared.Job.the-variants.{Running}
 use Rattle.rules.specs.declared.Permit.{Permit}
 use Rattle.rules.specs.declared.Permit.the-variants.{Granted, Denied}
 use Rattle.rules.specs.declared.Refusal.the-variants.{ShortResponse, WrongWork}
-use Rattle.rules.specs.Bytes.{all, part, splice, zeros}
+use Rattle.rules.specs.Bytes.{iff, all, allBelow, splice, zeros}
 use Rattle.rules.specs.Book.{book}
 use Rattle.rules.specs.Ber.{tlv}
 use Rattle.rules.specs.Objects.{objectTag}
 use Rattle.rules.specs.Store.{storeSize, workSize, slots, capacity, offset, slotBytes, putObject, wellFormed}
 use Rattle.rules.specs.Session.{State, state, cleared, holding, withAdmin, withChallenge, withJob, jobOpen, readable}
-use Rattle.rules.specs.Command.{check, Wrote, nothing, inSlot}
+use Rattle.rules.specs.Command.{fieldOf, check, Wrote, nothing, inSlot}
 use Rattle.rules.specs.Keys.{resultFits, finished}
 use Rattle.rules.specs.Calls.{command, Call, powers, sends, illSession, shortResponse, interrupts, unasked, wrongResult, permit, Result, delivered, poweredOn, granted, keptSession, denied, decided, call}
 use Rattle.rules.specs.Runs.{leaves, run, endOf}
-use Rattle.rules.specs.Claims.Starred.{hex, fixed, tell, done, wrong, right, printed, asks, makes, reply, first, last}
+use Rattle.rules.specs.Claims.Starred.{hex, Card, issued, storeOf, fixedCard, fixed, tell, done, wrong, right, printed, asks, makes, reply, first, last}
 use Rattle.rules.specs.Claims.Lengths.{Bytes}
 use Rattle.rules.specs.Claims.Words.{checkWords, words, Tells}
 use Rattle.rules.specs.Claims.Invariants.{Plain, Sane}
 use Rattle.rules.specs.Claims.ReadBack.{tagBytesOf, tagList, putField, wordOf, Puts, Pieces, next, refused, Untouched, Ends, Answers, reading, joined, lastWord}
 use Rattle.rules.specs.Claims.ReadBack.{last as end}
 use Rattle.rules.specs.Claims.Secrecy.{noEqual, within, inPinRead, pinRead, secret, Alike, NoneEqual, AllSame}
-use Rattle.rules.specs.Claims.Instances.{before, other, guesses, login, issuing, pieces, stored, two, rest, Holds}
-use Rattle.rules.proofs.Tests.{off, and-left, and-right, and-both, or-left, or-right, by-order}
+use Rattle.rules.specs.Claims.Instances.{before, otherPins, other, guesses, login, issuing, pieces, stored, two, rest, Holds}
+use Rattle.rules.proofs.Tests.{off, and-both, or-left, or-right, or-other, at-each, by-order}
 use Rattle.rules.proofs.Tests.{on as on-true}
 use Rattle.rules.proofs.Lists.{length-splice, splice-before, splice-after}
-use Rattle.rules.proofs.Slots.{put-fits, slotBytes-length}
+use Rattle.rules.proofs.Slots.{slotBytes-length}
+use Rattle.rules.proofs.WellFormed.{wf-size}
+use Rattle.rules.proofs.StaysWell.{wf-put}
 use Rattle.rules.proofs.Reading.{all-bytes, call-sends}
 use Rattle.rules.proofs.Refusals.{refusals}
 use Rattle.rules.proofs.Words.{status-words}
 use Rattle.rules.proofs.Kept.{Well}
+use Rattle.rules.proofs.Cards.{fair, bare-blank, card-well, fixed-fair, fixed-well, powers-on, power-is}
 use Rattle.rules.proofs.Invariants.{lets-granted, power-granted, After, powered-well, call-kept, invariants}
 use Rattle.rules.proofs.Secrecy.{secrecy}
 use Rattle.rules.proofs.ReadBack.{back-again}
@@ -61,13 +64,17 @@ alike-secret s v at h sec = record {
 alike-on : (s t u : List ℕ) → Alike s t → Alike t u → Alike s u
 alike-on s t u a b = record { size = a .size ∙ b .size; same = λ j o. a .same j o ∙ b .same j o }
 
-pin-secret : (k : ℕ) → k < 8 → secret (10 + k) ≡ true
-unfolding secret
-pin-secret k h = or-left _ _ (or-left (within 10 8 (10 + k)) _ (and-both _ _ (le-leb 10 (10 + k) (omega arith)) (lt-ltb (10 + k) (10 + 8) (omega arith))))
+-- two stores whose first 32 bytes are alike, and whose others are zero
+hidden : List ℕ → List ℕ → ℕ → Bool
+hidden s t j = secret j || eqb (getD s j 0) (getD t j 0)
 
-puk-secret : (k : ℕ) → k < 8 → secret (20 + k) ≡ true
-unfolding secret
-puk-secret k h = or-left _ _ (or-right (within 10 8 (20 + k)) _ (and-both _ _ (le-leb 20 (20 + k) (omega arith)) (lt-ltb (20 + k) (20 + 8) (omega arith))))
+alike-heads : (s t : List ℕ) → length s ≡ length t → allBelow (hidden s t) 32 ≡ true
+    → ((j : ℕ) → 32 ≤ j → getD s j 0 ≡ 0) → ((j : ℕ) → 32 ≤ j → getD t j 0 ≡ 0) → Alike s t
+unfolding hidden
+alike-heads s t l e a b = record {
+  size = l;
+  same = λ j o. by-order j 32 (λ h. eqb-true _ _ (or-other (secret j) _ (at-each (hidden s t) 32 e j h) o)) (λ h. a j h ∙ sym (b j h));
+}
 
 -- the printed information, slot 9
 printed-secret : (k : ℕ) → k < 514 → secret (32306 + k) ≡ true
@@ -76,24 +83,27 @@ printed-secret k h =
     let w : within 32306 514 (32306 + k) ≡ true = and-both _ _ (le-leb 32306 (32306 + k) (omega arith)) (lt-ltb (32306 + k) (32306 + 514) (omega arith)) in
     or-right (within 10 8 (32306 + k) || within 20 8 (32306 + k)) _ (or-right (inPinRead (32306 + k) 11) _ (or-right (inPinRead (32306 + k) 10) _ (or-left (inPinRead (32306 + k) 9) _ w)))
 
-fixed-size : length fixed ≡ storeSize
-unfolding book fixed
-fixed-size = refl
+pins-fair : fair otherPins ≡ true
+unfolding book fair
+pins-fair = refl
+
+pins-well : wellFormed (storeOf otherPins) ≡ true
+pins-well = card-well otherPins refl pins-fair
+
+heads-alike : allBelow (hidden (storeOf fixedCard) (storeOf otherPins)) 32 ≡ true
+unfolding hidden secret inPinRead pinRead offset capacity iff
+heads-alike = refl
 
 alike-other : Alike fixed other
-unfolding other putObject offset
+unfolding fixed other putObject offset
 alike-other =
-    let pin : List ℕ = hex 8 0x393939393939FFFF in
-    let puk : List ℕ = hex 8 0x0102030405060708 in
-    let a : List ℕ = splice fixed 10 pin in
-    let la : length a ≡ storeSize = length-splice fixed pin 10 (omega (arith, fixed-size)) ∙ fixed-size in
-    let b : List ℕ = splice a 20 puk in
-    let lb : length b ≡ storeSize = length-splice a puk 20 (omega (arith, la)) ∙ la in
+    let a : List ℕ = storeOf fixedCard in
+    let b : List ℕ = storeOf otherPins in
+    let lb : length b ≡ storeSize = wf-size b pins-well in
     let v : List ℕ = slotBytes 9 (hex 2 0x0809) in
-    let lv : length v ≡ 514 = slot-size in
-    alike-on fixed a _ (alike-secret fixed pin 10 (omega (arith, fixed-size)) pin-secret)
-    (alike-on a b _ (alike-secret a puk 20 (omega (arith, la)) puk-secret)
-    (alike-secret b v 32306 (omega (arith, lb, lv)) (λ k h. printed-secret k (omega (arith, lv)))))
+    alike-on a b _
+    (alike-heads a b (wf-size a fixed-well ∙ sym lb) heads-alike (bare-blank fixedCard refl fixed-fair) (bare-blank otherPins refl pins-fair))
+    (alike-secret b v 32306 (omega (arith, lb, slot-size)) (λ k h. printed-secret k (omega (arith, slot-size))))
   where
     slot-size : length (slotBytes 9 (hex 2 0x0809)) ≡ 514
     slot-size = slotBytes-length 9 (hex 2 0x0809) (unfold capacity in omega arith) ∙ unfold capacity in refl
@@ -103,17 +113,11 @@ alike-other =
 tell-plain : (n x : ℕ) → all (λ b. ltb b 256) (hex n x) ≡ true → Plain (tell n x)
 tell-plain n x e = all-bytes (hex n x) e
 
--- ---- one call after the other: the stores are tested once, here
-
-stores-ok : (wellFormed fixed && wellFormed other) ≡ true
-unfolding book fixed other
-stores-ok = refl
-
-fixed-ok : wellFormed fixed ≡ true
-fixed-ok = and-left _ _ stores-ok
+-- ---- one call after the other
 
 other-ok : wellFormed other ≡ true
-other-ok = and-right (wellFormed fixed) _ stores-ok
+unfolding other
+other-ok = wf-put (storeOf otherPins) 9 (hex 2 0x0809) (omega arith) (unfold capacity in omega arith) pins-well
 
 -- a call that leads from one state to another
 record Leads (st : State) (k : Call) (t : State) : Type 0 where
@@ -149,19 +153,17 @@ unfoldable on : List ℕ → State
 on s = state s (zeros workSize) (cleared false)
 
 module _ (s : List ℕ) (w : wellFormed s ≡ true) where
-  powers-on : permit (before s) (powers false) ≡ Granted
-  unfolding before illSession shortResponse interrupts unasked wrongResult
-  powers-on =
-      lets-granted (before s) (powers false)
-      (record { store = w; session = refl; response = refl; work = length-replicate {A = ℕ} workSize 0xAA; free = refl; asked = refl; result = refl })
+  granted-on : permit (before s) (powers false) ≡ Granted
+  unfolding before
+  granted-on = powers-on s (replicate workSize 0xAA) (cleared true) false w (length-replicate {A = ℕ} workSize 0xAA)
 
-  power-is : call (before s) (powers false) ≡ poweredOn (before s) false
-  unfolding call decided granted
-  power-is = ap (decided (before s) (powers false)) powers-on
+  on-is : call (before s) (powers false) ≡ poweredOn (before s) false
+  unfolding before
+  on-is = power-is s (replicate workSize 0xAA) (cleared true) false w (length-replicate {A = ℕ} workSize 0xAA)
 
   power-leads : Leads (before s) (powers false) (on s)
   unfolding leaves poweredOn on before
-  power-leads = record { to = ap leaves power-is; well = powered-well (before s) false w .well }
+  power-leads = record { to = ap leaves on-is; well = powered-well (before s) false w .well }
 
   -- the finder's two tries
   told : (command (on s) (hex 11 0x00CB3FFF055C035FC10900)) .after ≡ on s
@@ -179,7 +181,7 @@ module _ (s : List ℕ) (w : wellFormed s ≡ true) where
   quiet : noEqual ((command (on s) (hex 13 0x0020008008_313233343537FFFF)) .steps) ≡ true → NoneEqual (run (before s) (powers false ∷ guesses))
   unfolding run poweredOn delivered on
   quiet e =
-      let p : noEqual ((call (before s) (powers false)) .steps) ≡ true = ap (λ (r : Result). noEqual (r .steps)) power-is in
+      let p : noEqual ((call (before s) (powers false)) .steps) ≡ true = ap (λ (r : Result). noEqual (r .steps)) on-is in
       let q : noEqual ((call (on s) printed) .steps) ≡ true =
       ap (λ (r : Result). noEqual (r .steps)) (tell-is (on s) (power-leads .well) 11 0x00CB3FFF055C035FC10900 (on s) refl refl) ∙ quiet-look in
       let r : noEqual ((call (on s) wrong) .steps) ≡ true =
@@ -190,7 +192,7 @@ module _ (s : List ℕ) (w : wellFormed s ≡ true) where
 
 fixed-quiet : NoneEqual (run (before fixed) (powers false ∷ guesses))
 unfolding book fixed on
-fixed-quiet = quiet fixed fixed-ok refl
+fixed-quiet = quiet fixed fixed-well refl
 
 other-quiet : NoneEqual (run (before other) (powers false ∷ guesses))
 unfolding book fixed other on
@@ -199,12 +201,12 @@ other-quiet = quiet other other-ok refl
 found-card : AllSame (run (before fixed) (powers false ∷ guesses)) (run (before other) (powers false ∷ guesses))
 unfolding before
 found-card =
-    secrecy fixed other (replicate workSize 0xAA) (cleared true) false (powers-on fixed fixed-ok) (powers-on other other-ok) alike-other guesses fixed-quiet other-quiet
+    secrecy fixed other (replicate workSize 0xAA) (cleared true) false (granted-on fixed fixed-well) (granted-on other other-ok) alike-other guesses fixed-quiet other-quiet
 
 sane-card : Sane (endOf (before fixed) (powers false ∷ wrong ∷ right ∷ printed ∷ []))
 unfolding before
 sane-card =
-    invariants .always fixed (replicate workSize 0xAA) (cleared true) false (powers-on fixed fixed-ok) (wrong ∷ right ∷ printed ∷ [])
+    invariants .always fixed (replicate workSize 0xAA) (cleared true) false (granted-on fixed fixed-well) (wrong ∷ right ∷ printed ∷ [])
     (tell-plain 13 0x0020008008_313233343537FFFF refl, (tell-plain 13 0x0020008008_313233343536FFFF refl, (tell-plain 11 0x00CB3FFF055C035FC10900 refl, tt)))
 
 -- ---- the administrator's login
@@ -216,7 +218,7 @@ challenged : State
 challenged = state fixed (zeros workSize) (withChallenge (cleared false) (Awaits 0x1112131415161718))
 
 asks-leads : Leads (on fixed) asks asked
-asks-leads = tell-leads (on fixed) (power-leads fixed fixed-ok .well) 10 0x0087009B04_7C028100_00 asked refl (unfold on in refl) (unfold book on asked in refl)
+asks-leads = tell-leads (on fixed) (power-leads fixed fixed-well .well) 10 0x0087009B04_7C028100_00 asked refl (unfold on in refl) (unfold book on asked in refl)
 
 makes-leads : Leads asked makes challenged
 makes-leads = done-leads asked (asks-leads .well) 16 0x0102030405060708_1112131415161718 challenged (unfold asked in refl) (unfold book asked in refl) (unfold book asked challenged in refl)
@@ -228,7 +230,7 @@ reply-leads =
 issued-is : issuing ≡ endOf (before fixed) (powers false ∷ login)
 unfolding endOf
 issued-is =
-    sym (ap (λ (x : State). endOf x login) (power-leads fixed fixed-ok .to) ∙ ap (λ (x : State). endOf x (makes ∷ reply ∷ [])) (asks-leads .to)
+    sym (ap (λ (x : State). endOf x login) (power-leads fixed fixed-well .to) ∙ ap (λ (x : State). endOf x (makes ∷ reply ∷ [])) (asks-leads .to)
     ∙ ap (λ (x : State). endOf x (reply ∷ [])) (makes-leads .to) ∙ reply-leads .to)
 
 -- ---- a PUT DATA in two pieces
@@ -254,39 +256,32 @@ after = state (putObject fixed 0 (hex 2 0x0809)) (zeros workSize) (withAdmin (cl
 last-leads : Leads amid last after
 last-leads = tell-leads amid (first-leads .well) 8 0x00DB3FFF03_020809 after refl (unfold amid in refl) (unfold book amid after in refl)
 
-first-puts : Puts 0x10 issuing first (hex 6 0x5C035FC10753)
-unfolding book issuing wordOf
-first-puts = record {
+-- a piece that is granted, passes and is answered 9000
+puts : (cla lc n x : ℕ) (st : State) (d : List ℕ) → Well st → jobOpen (st .session) ≡ false
+    → check (st .session .contactless) (hex n x) ≡ Passed (headOf cla lc) → fieldOf (hex n x) (headOf cla lc) ≡ d
+    → wordOf (delivered (replicate 258 0xBB) (command st (hex n x))) ≡ 0x9000 → Puts cla st (tell n x) d
+puts cla lc n x st d g j c f w = record {
   resp = replicate 258 0xBB;
-  bytes = hex 11 0x10DB3FFF06_5C035FC10753;
-  head = headOf 0x10 6;
+  bytes = hex n x;
+  head = headOf cla lc;
   sent = refl;
-  taken = tell-granted issuing (reply-leads .well) refl 11 0x10DB3FFF06_5C035FC10753;
-  passed = refl;
+  taken = tell-granted st g j n x;
+  passed = c;
   class = refl;
   ins = refl;
   p1 = refl;
   p2 = refl;
-  field = refl;
-  well = ap wordOf (tell-is issuing (reply-leads .well) 11 0x10DB3FFF06_5C035FC10753 amid refl refl);
+  field = f;
+  well = ap wordOf (call-sends st (replicate 258 0xBB) (hex n x) g j (omega arith)) ∙ w;
 }
+
+first-puts : Puts 0x10 issuing first (hex 6 0x5C035FC10753)
+unfolding book issuing wordOf
+first-puts = puts 0x10 6 11 0x10DB3FFF06_5C035FC10753 issuing (hex 6 0x5C035FC10753) (reply-leads .well) refl refl refl refl
 
 last-puts : Puts 0x00 amid last (hex 3 0x020809)
 unfolding book amid wordOf
-last-puts = record {
-  resp = replicate 258 0xBB;
-  bytes = hex 8 0x00DB3FFF03_020809;
-  head = headOf 0x00 3;
-  sent = refl;
-  taken = tell-granted amid (first-leads .well) refl 8 0x00DB3FFF03_020809;
-  passed = refl;
-  class = refl;
-  ins = refl;
-  p1 = refl;
-  p2 = refl;
-  field = refl;
-  well = ap wordOf (tell-is amid (first-leads .well) 8 0x00DB3FFF03_020809 after refl refl);
-}
+last-puts = puts 0x00 3 8 0x00DB3FFF03_020809 amid (hex 3 0x020809) (first-leads .well) refl refl refl refl
 
 -- between them a call that is lent no response buffer
 short-refused : permit amid (sends [] []) ≡ Denied ShortResponse
@@ -336,7 +331,7 @@ untouched =
 object-answers : Answers stored 0 (hex 2 0x0809)
 unfolding before issuing stored
 object-answers =
-    back-again .back fixed (replicate workSize 0xAA) (cleared true) false (powers-on fixed fixed-ok) login pieces (powers false ∷ [])
+    back-again .back fixed (replicate workSize 0xAA) (cleared true) false (granted-on fixed fixed-well) login pieces (powers false ∷ [])
     (tell-plain 10 0x0087009B04_7C028100_00 refl, (tt, (tell-plain 17 0x0087009B0C_7C0A82081112131415161718 refl, tt)))
     (tell-plain 11 0x10DB3FFF06_5C035FC10753 refl, (all-bytes [] refl, (tell-plain 8 0x00DB3FFF03_020809 refl, tt)))
     (tt, tt)
@@ -362,7 +357,7 @@ stored-object =
 
 wrong-work : permit (state fixed (zeros 5) (cleared false)) (powers true) ≡ Denied WrongWork
 unfolding permit illSession shortResponse zeros
-wrong-work = off _ _ _ (ap not fixed-ok) ∙ off _ _ _ refl ∙ off _ _ _ refl ∙ on-true _ _ _ refl
+wrong-work = off _ _ _ (ap not fixed-well) ∙ off _ _ _ refl ∙ off _ _ _ refl ∙ on-true _ _ _ refl
 
 -- a command of three bytes, and a VERIFY
 
@@ -379,7 +374,7 @@ a-verify = refl
 
 told-words : Tells (words 0x20) ((command (state fixed (zeros workSize) (cleared false)) (hex 13 0x0020008008_313233343537FFFF)) .told)
 unfolding verify-head
-told-words = status-words .passed (state fixed (zeros workSize) (cleared false)) (hex 13 0x0020008008_313233343537FFFF) verify-head fixed-ok a-verify
+told-words = status-words .passed (state fixed (zeros workSize) (cleared false)) (hex 13 0x0020008008_313233343537FFFF) verify-head fixed-well a-verify
 
 told-failed : Tells checkWords ((command (before fixed) (hex 3 0x00A404)) .told)
 unfolding before

@@ -115,7 +115,7 @@ pub record After (s : List ℕ) (x : Result) : Type 0 where
 beyond : (n j : ℕ) → n ≤ j → getD (zeros n) j 0 ≡ 0
 beyond n j l = List·getD-eq-default (zeros n) 0 {n = j} (omega (arith, length-zeros n))
 
-zeros-zero : (n : ℕ) → Zero (zeros n) 0
+pub zeros-zero : (n : ℕ) → Zero (zeros n) 0
 unfolding zeros
 zeros-zero n j h = by-order j n (λ l. getD-replicate n j 0 0 l) (λ l. beyond n j l)
 

@@ -19,6 +19,7 @@ pub mod Gathered
 pub mod Working
 pub mod ReadBack
 pub mod Refusals
+pub mod Cards
 pub mod Starred
 pub mod Words
 pub mod Instances

@@ -10,7 +10,7 @@
 --   splice-again           a stretch replaced twice
 --   splice-apart           two stretches apart from each other, in either order
 --   splice-within          a stretch whose ends stay as they were
---   splice-join join-start two stretches put one behind the other, and from the start
+--   splice-next join-start two stretches put one behind the other, and from the start
 --   part-start             the start of a row whose start was replaced
 --   part-none part-cons    a part of no bytes, and its first byte
 --   part-head              the part of a row that starts with the row v
@@ -27,7 +27,7 @@ use native.Mathlib.Numerals.{add-one}
 use native.Mathlib.Nat.{add-assoc, zero-add}
 use lib.Dec.{eqb, eqb-refl}
 use lib.ListN.{length, take, drop, getD, length-append, length-take, length-drop, List·getD-append}
-use lib.Seq.{length-take-le, getD-append-add, getD-take, getD-drop, ext-getD, take-at, drop-at, drop-cons, take-append-le}
+use lib.Seq.{length-take-le, getD-append-add, getD-take, getD-drop, ext-getD, take-at, drop-at, drop-drop, drop-cons, take-append-le}
 use borrow.Author.Tests.{eqb-true, eq-eqb}
 use Rattle.rules.specs.Bytes.{sameBytes, part, splice}
 use Rattle.rules.proofs.Tests.{and-left, and-right, and-both, by-order}
@@ -200,31 +200,25 @@ splice-within s a v b at h ha hb =
     ∙ sym (splice-after s v (at + length a) hv j p)))
     (λ q. splice-after s m at hm j q ∙ sym (splice-after s v (at + length a) hv j p)))
 
+-- the first n bytes replaced change nothing behind them
+behind : (s p : List ℕ) (n m : ℕ) → length p ≡ n → drop (n + m) (p ++ drop n s) ≡ drop (n + m) s
+behind s p n m e = sym (drop-drop m n (p ++ drop n s)) ∙ ap (drop m) (drop-at p (drop n s) n e) ∙ drop-drop m n s
+
 -- two stretches put one behind the other
-pub splice-join : (d a b : List ℕ) (at : ℕ) → at + (length a + length b) ≤ length d
-    → splice (splice d at a) (at + length a) b ≡ splice d at (a ++ b)
-splice-join d a b at h =
-    let ha : at + length a ≤ length d = omega arith in
-    let la : length (splice d at a) ≡ length d = length-splice d a at ha in
-    let hb : at + length a + length b ≤ length (splice d at a) = omega arith in
-    let lm : length (a ++ b) ≡ length a + length b = length-append a b in
-    let hm : at + length (a ++ b) ≤ length d = omega arith in
-    by-stretch (splice (splice d at a) (at + length a) b) (splice d at (a ++ b)) (at + length a) (length b)
-    (length-splice (splice d at a) b (at + length a) hb ∙ la ∙ sym (length-splice d (a ++ b) at hm))
-    (rw (length-splice (splice d at a) b (at + length a) hb) hb)
-    (λ j p. splice-before (splice d at a) b (at + length a) hb j p
-    ∙ by-order j at
-    (λ q. splice-before d a at ha j q ∙ sym (splice-before d (a ++ b) at hm j q))
-    (λ q. subst (λ (i : ℕ). getD (splice d at a) i 0 ≡ getD (splice d at (a ++ b)) i 0) (omega arith)
-    (splice-in d a at ha (j - at) (omega arith) ∙ sym (splice-in d (a ++ b) at hm (j - at) (omega arith) ∙ List·getD-append a b 0 (j - at) (omega arith)))))
-    (λ k p. splice-in (splice d at a) b (at + length a) hb k p
-    ∙ sym (ap (λ (i : ℕ). getD (splice d at (a ++ b)) i 0) (add-assoc at (length a) k)
-    ∙ splice-in d (a ++ b) at hm (length a + k) (omega arith) ∙ getD-append-add a b k 0))
-    (λ j p. splice-after (splice d at a) b (at + length a) hb j p ∙ splice-after d a at ha j (omega arith) ∙ sym (splice-after d (a ++ b) at hm j (omega arith)))
+pub splice-next : (s u v : List ℕ) (at : ℕ) → at + length u ≤ length s
+    → splice (splice s at u) (at + length u) v ≡ splice s at (u ++ v)
+unfolding splice
+splice-next s u v at h =
+    let n : ℕ = at + length u in
+    let p : List ℕ = take at s ++ u in
+    let lp : length p ≡ n = simp (length-append, length-take) (omega arith) in
+    let e : take at s ++ (u ++ drop n s) ≡ p ++ drop n s = sym (append-assoc (take at s) u (drop n s)) in
+    let w : n + length v ≡ at + length (u ++ v) = simp length-append (omega arith) in
+    rw (e, take-at p (drop n s) n lp, behind s p n (length v) lp, w) (simp append-assoc)
 
 -- the same from the start of a row
 pub join-start : (d a b : List ℕ) → length a + length b ≤ length d → splice (splice d 0 a) (length a) b ≡ splice d 0 (a ++ b)
-join-start d a b h = subst (λ (n : ℕ). splice (splice d 0 a) n b ≡ splice d 0 (a ++ b)) (zero-add (length a)) (splice-join d a b 0 (omega arith))
+join-start d a b h = subst (λ (n : ℕ). splice (splice d 0 a) n b ≡ splice d 0 (a ++ b)) (zero-add (length a)) (splice-next d a b 0 (omega arith))
 
 -- the start of a row whose start was replaced
 pub part-start : (s v : List ℕ) (n : ℕ) → length v ≤ length s → n ≤ length v → part (splice s 0 v) 0 n ≡ take n v

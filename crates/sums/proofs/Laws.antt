@@ -18,8 +18,7 @@ use lib.Seq.{drop-cons}
 use borrow.Author.Tests.{lt-ltb, le-ltb}
 use Rattle.rules.specs.Bytes.{splice}
 use Rattle.rules.proofs.Tests.{on, off, either}
-use Rattle.rules.proofs.Lists.{part-none, splice-part}
-use Rattle.octets.proofs.Laws.{splice-next}
+use Rattle.rules.proofs.Lists.{splice-next, part-none, splice-part}
 use Rattle.sums.specs.Sums.{sumFrom, sumOf, decimalOf}
 
 pub sum-at : (h : ℕ) (s : List ℕ) (i : ℕ) → i < length s → sumFrom h (drop i s) ≡ sumFrom ((h * 257 + getD s i 0 + 1) % 4294967291) (drop (i + 1) s)

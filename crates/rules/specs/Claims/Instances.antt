@@ -16,12 +16,12 @@ use Prim.Native.Nat.{ℕ}
 use lib.ListN.{replicate}
 use Rattle.rules.specs.declared.Session.{Session}
 use Rattle.rules.specs.declared.Refusal.the-variants.{WrongWork}
-use Rattle.rules.specs.Bytes.{splice, zeros}
+use Rattle.rules.specs.Bytes.{zeros}
 use Rattle.rules.specs.Store.{workSize, putObject}
 use Rattle.rules.specs.Session.{State, state, cleared, withAdmin}
 use Rattle.rules.specs.Calls.{command, Call, powers, sends}
 use Rattle.rules.specs.Runs.{run, endOf}
-use Rattle.rules.specs.Claims.Starred.{hex, fixed, wrong, right, printed, asks, makes, reply, first, last}
+use Rattle.rules.specs.Claims.Starred.{hex, Card, issued, filled, storeOf, fixed, wrong, right, printed, asks, makes, reply, first, last}
 use Rattle.rules.specs.Claims.Words.{checkWords, words, Tells}
 use Rattle.rules.specs.Claims.Refusals.{Kept}
 use Rattle.rules.specs.Claims.Invariants.{Sane}
@@ -33,8 +33,11 @@ before s = state s (replicate workSize 0xAA) (cleared true)
 
 -- ---- secrecy
 
+abbrev pub otherPins : Card
+otherPins = issued 0x4F50430001000000_0303393939393939FFFF_03030102030405060708_00000000
+
 unfoldable pub other : List ℕ
-other = putObject (splice (splice fixed 10 (hex 8 0x393939393939FFFF)) 20 (hex 8 0x0102030405060708)) 9 (hex 2 0x0809)
+other = storeOf (filled otherPins 9 (hex 2 0x0809))
 
 abbrev pub guesses : List Call
 guesses = printed ∷ wrong ∷ []

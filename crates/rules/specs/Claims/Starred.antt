@@ -3,19 +3,20 @@
 -- "Errors that look harmless" would fail, and a row for each further group of rules.
 --
 --   hex n x              the number x as n bytes
---   fixed                the fixed card of 01's program
---   keyed                the same with key algorithms 07, 11, 11, 07
+--   Card                 a card, and storeOf its store
+--   fixed                the store of the fixed card of 01's program
 --   Line, k ⇒ t          a call, and the test that its outcome must pass
---   plays s ls           the lines ls on a card with the store s, powered on by contact
+--   Row                  a row of the table, and passes what it claims
+--   plays c ls           the lines ls on the card c, powered on by contact
 --   sw · bytes · sized · job · refused    tests of an outcome
---   storeIs              a test of the store after a call
---   table                the table: each row must be true
+--   storeIs workIs       tests of the store and of the work area after a call
+--   table                the table: each row must pass
 --   Holds                the claim
 --
 -- Assumes nothing.
 use mathlib.Core.Path.{_≡_}
 use mathlib.Core.Bool.{Bool, true, false, not, _&&_}
-use mathlib.Core.List.{List, [], _∷_, _++_}
+use mathlib.Core.List.{List, [], _∷_, _++_, map}
 use Prim.Native.Nat.{ℕ, zero, suc, _+_, _-_, _/_, _%_}
 use lib.Dec.{eqb}
 use lib.ListN.{length, take, drop, replicate}
@@ -45,16 +46,35 @@ hex n x = hexOn [] n x
 
 -- ---- cards
 
+-- by the first 32 bytes of its store, the rest zero; with an object in a slot; with a store of one byte too many
+pub data Card : Type 0 where
+  issued : ℕ → Card
+  filled : Card → ℕ → List ℕ → Card
+  overlong : Card → Card
+
+abbrev pub storeOf : Card → List ℕ
+storeOf (issued x) = hex 32 x ++ zeros 33368
+storeOf (filled c i v) = putObject (storeOf c) i v
+storeOf (overlong c) = 0 ∷ storeOf c
+
 -- PIN 123456, PUK 12345678, limits 3, all tries left, no keys or objects
+abbrev pub fixedCard : Card
+fixedCard = issued 0x4F50430001000000_0303313233343536FFFF_03033132333435363738_00000000
+
 unfoldable pub fixed : List ℕ
-fixed = hex 32 0x4F50430001000000_0303313233343536FFFF_03033132333435363738_00000000 ++ zeros 33368
+fixed = storeOf fixedCard
 
-unfoldable pub keyed : List ℕ
-keyed = hex 32 0x4F50430001000000_0303313233343536FFFF_03033132333435363738_07111107 ++ zeros 33368
+-- the same with key algorithms 07, 11, 11, 07
+abbrev pub keyedCard : Card
+keyedCard = issued 0x4F50430001000000_0303313233343536FFFF_03033132333435363738_07111107
 
--- limit 15, as far as X goes
-unfoldable pub patient : List ℕ
-patient = hex 32 0x4F50430001000000_0F0F313233343536FFFF_03033132333435363738_00000000 ++ zeros 33368
+-- with one try fewer
+abbrev pub triedCard : Card
+triedCard = issued 0x4F50430001000000_0302313233343536FFFF_03033132333435363738_00000000
+
+-- with limit 15, as far as X goes
+abbrev pub patientCard : Card
+patientCard = issued 0x4F50430001000000_0F0F313233343536FFFF_03033132333435363738_00000000
 
 -- ---- lines
 
@@ -65,13 +85,22 @@ unfoldable pub follows : State → List Line → Bool
 follows st [] = true
 follows st ((k ⇒ t) ∷ ls) = let r = call st k in let b = follows (leaves r) ls in t (r .outcome) && b
 
--- whatever the work area held before
-unfoldable pub plays : List ℕ → List Line → Bool
-plays s ls = follows (leaves (call (state s (replicate workSize 0xAA) (cleared true)) (powers false))) ls
+-- ---- rows: a test; lines on a card that is powered on by contact, or without; lines from any work area and session
 
--- without contact
-unfoldable pub playsAir : List ℕ → List Line → Bool
-playsAir s ls = follows (leaves (call (state s (replicate workSize 0xAA) (cleared false)) (powers true))) ls
+pub data Row : Type 0 where
+  fact : Bool → Row
+  plays playsAir : Card → List Line → Row
+  from : Card → List ℕ → Session → List Line → Row
+
+-- a power-on, whatever the work area and the session were before
+unfoldable pub powered : Card → Bool → State
+powered c air = leaves (call (state (storeOf c) (replicate workSize 0xAA) (cleared (not air))) (powers air))
+
+unfoldable pub passes : Row → Bool
+passes (fact b) = b
+passes (plays c ls) = follows (powered c false) ls
+passes (playsAir c ls) = follows (powered c true) ls
+passes (from c w ss ls) = follows (state (storeOf c) w ss) ls
 
 -- ---- tests
 
@@ -184,46 +213,43 @@ last = tell 8 0x00DB3FFF03_020809
 
 -- ---- the starred cases
 
-abbrev pub starredCases : List Bool
+abbrev pub starredCases : List Row
 starredCases =
     -- PIN form
-    pinForm (hex 8 0x313233343536FFFF)
-    ∷ pinForm (hex 8 0x3132333435363738)
-    ∷ not (pinForm (hex 8 0x3132333435FFFFFF))
-    ∷ not (pinForm (hex 8 0x313233343536FF37))
+    fact (pinForm (hex 8 0x313233343536FFFF))
+    ∷ fact (pinForm (hex 8 0x3132333435363738))
+    ∷ fact (not (pinForm (hex 8 0x3132333435FFFFFF)))
+    ∷ fact (not (pinForm (hex 8 0x313233343536FF37)))
     -- limit 3
-    ∷ plays fixed (wrong ⇒ sw 0x63C2 ∷ wrong ⇒ sw 0x63C1 ∷ five ⇒ sw 0x6A80 ∷ wrong ⇒ sw 0x63C0 ∷ right ⇒ sw 0x6983 ∷ empty ⇒ sw 0x63C0 ∷ [])
+    ∷ plays fixedCard (wrong ⇒ sw 0x63C2 ∷ wrong ⇒ sw 0x63C1 ∷ five ⇒ sw 0x6A80 ∷ wrong ⇒ sw 0x63C0 ∷ right ⇒ sw 0x6983 ∷ empty ⇒ sw 0x63C0 ∷ [])
     -- contents 252, 253, 254
-    ∷ plays (putObject fixed 0 (replicate 252 7)) (container ⇒ sized 255 0x9000 ∷ more ⇒ sw 0x6985 ∷ [])
-    ∷ plays (putObject fixed 0 (replicate 253 7)) (container ⇒ sized 256 0x9000 ∷ more ⇒ sw 0x6985 ∷ [])
-    ∷ plays (putObject fixed 0 (replicate 254 7)) (container ⇒ sized 256 0x6101 ∷ more ⇒ bytes (hex 3 0x079000) ∷ more ⇒ sw 0x6985 ∷ [])
+    ∷ plays (filled fixedCard 0 (replicate 252 7)) (container ⇒ sized 255 0x9000 ∷ more ⇒ sw 0x6985 ∷ [])
+    ∷ plays (filled fixedCard 0 (replicate 253 7)) (container ⇒ sized 256 0x9000 ∷ more ⇒ sw 0x6985 ∷ [])
+    ∷ plays (filled fixedCard 0 (replicate 254 7)) (container ⇒ sized 256 0x6101 ∷ more ⇒ bytes (hex 3 0x079000) ∷ more ⇒ sw 0x6985 ∷ [])
     -- PUT DATA piece, SELECT, last piece
-    ∷ plays fixed (asAdmin (first ⇒ sw 0x9000 ∷ select ⇒ selected ∷ last ⇒ both (sw 0x6A80) (storeIs fixed) ∷ []))
+    ∷ plays fixedCard (asAdmin (first ⇒ sw 0x9000 ∷ select ⇒ selected ∷ last ⇒ both (sw 0x6A80) (storeIs fixed) ∷ []))
     -- challenge, VERIFY, reply
-    ∷ plays fixed (asks ⇒ job 0x9B 0x00 [] ∷ makes ⇒ challenge ∷ right ⇒ sw 0x9000 ∷ reply ⇒ sw 0x6985 ∷ [])
+    ∷ plays fixedCard (asks ⇒ job 0x9B 0x00 [] ∷ makes ⇒ challenge ∷ right ⇒ sw 0x9000 ∷ reply ⇒ sw 0x6985 ∷ [])
     -- reply sent in two pieces
-    ∷ plays fixed (asks ⇒ job 0x9B 0x00 [] ∷ makes ⇒ challenge ∷ tell 9 0x1087009B04_7C0A8208 ⇒ sw 0x9000 ∷ tell 13 0x0087009B08_1112131415161718 ⇒ sw 0x6985 ∷ [])
+    ∷ plays fixedCard (asks ⇒ job 0x9B 0x00 [] ∷ makes ⇒ challenge ∷ tell 9 0x1087009B04_7C0A8208 ⇒ sw 0x9000 ∷ tell 13 0x0087009B08_1112131415161718 ⇒ sw 0x6985 ∷ [])
     -- printed information, empty or full, PIN not given
-    ∷ plays fixed (printed ⇒ sw 0x6982 ∷ [])
-    ∷ plays (putObject fixed 9 (replicate 512 7)) (printed ⇒ sw 0x6982 ∷ [])
+    ∷ plays fixedCard (printed ⇒ sw 0x6982 ∷ [])
+    ∷ plays (filled fixedCard 9 (replicate 512 7)) (printed ⇒ sw 0x6982 ∷ [])
     -- lengths 127, 128, 255, 256
-    ∷ sameBytes (length (berLength 127) ∷ length (berLength 128) ∷ length (berLength 255) ∷ length (berLength 256) ∷ []) (1 ∷ 2 ∷ 2 ∷ 3 ∷ [])
+    ∷ fact (sameBytes (length (berLength 127) ∷ length (berLength 128) ∷ length (berLength 255) ∷ length (berLength 256) ∷ []) (1 ∷ 2 ∷ 2 ∷ 3 ∷ []))
     -- the example of 01's program
-    ∷ plays fixed (select ⇒ selected ∷ empty ⇒ sw 0x63C3 ∷ wrong ⇒ sw 0x63C2 ∷ right ⇒ sw 0x9000 ∷ printed ⇒ sw 0x6A82 ∷ [])
+    ∷ plays fixedCard (select ⇒ selected ∷ empty ⇒ sw 0x63C3 ∷ wrong ⇒ sw 0x63C2 ∷ right ⇒ sw 0x9000 ∷ printed ⇒ sw 0x6A82 ∷ [])
     ∷ []
 
 -- ---- rows that the five wrong cards would fail: always 6700; always 9000; no try counted down; a made-up X; stored at the first piece
 
-unfoldable pub oneTryFewer : List ℕ
-oneTryFewer = hex 32 0x4F50430001000000_0302313233343536FFFF_03033132333435363738_00000000 ++ zeros 33368
-
-abbrev pub wrongCards : List Bool
+abbrev pub wrongCards : List Row
 wrongCards =
-    plays fixed (select ⇒ selected ∷ [])
-    ∷ plays fixed (tell 3 0x00A404 ⇒ sw 0x6700 ∷ empty ⇒ sw 0x63C3 ∷ [])
-    ∷ plays fixed (wrong ⇒ both (sw 0x63C2) (storeIs oneTryFewer) ∷ [])
-    ∷ plays patient (empty ⇒ sw 0x63CF ∷ wrong ⇒ sw 0x63CE ∷ empty ⇒ sw 0x63CE ∷ right ⇒ both (sw 0x9000) (storeIs patient) ∷ [])
-    ∷ plays fixed (asAdmin (first ⇒ both (sw 0x9000) (storeIs fixed)
+    plays fixedCard (select ⇒ selected ∷ [])
+    ∷ plays fixedCard (tell 3 0x00A404 ⇒ sw 0x6700 ∷ empty ⇒ sw 0x63C3 ∷ [])
+    ∷ plays fixedCard (wrong ⇒ both (sw 0x63C2) (storeIs (storeOf triedCard)) ∷ [])
+    ∷ plays patientCard (empty ⇒ sw 0x63CF ∷ wrong ⇒ sw 0x63CE ∷ empty ⇒ sw 0x63CE ∷ right ⇒ both (sw 0x9000) (storeIs (storeOf patientCard)) ∷ [])
+    ∷ plays fixedCard (asAdmin (first ⇒ both (sw 0x9000) (storeIs fixed)
     ∷ last ⇒ both (both (sw 0x9000) (workIs (zeros workSize))) (storeIs (putObject fixed 0 (hex 2 0x0809)))
     ∷ container ⇒ bytes (hex 6 0x530208099000) ∷ []))
     ∷ []
@@ -234,19 +260,19 @@ wrongCards =
 abbrev pub resets : Call
 resets = tell 21 0x002C008010_3132333435363738_313233343536FFFF
 
-abbrev pub harmlessErrors : List Bool
+abbrev pub harmlessErrors : List Row
 harmlessErrors =
-    plays fixed (printed ⇒ sw 0x6982 ∷ right ⇒ sw 0x9000 ∷ printed ⇒ sw 0x6A82 ∷ [])
-    ∷ plays fixed (five ⇒ both (sw 0x6A80) (storeIs fixed) ∷ empty ⇒ sw 0x63C3 ∷ [])
-    ∷ plays fixed (resets ⇒ sw 0x9000 ∷ empty ⇒ sw 0x63C3 ∷ right ⇒ sw 0x9000 ∷ resets ⇒ sw 0x9000 ∷ empty ⇒ sw 0x9000 ∷ [])
+    plays fixedCard (printed ⇒ sw 0x6982 ∷ right ⇒ sw 0x9000 ∷ printed ⇒ sw 0x6A82 ∷ [])
+    ∷ plays fixedCard (five ⇒ both (sw 0x6A80) (storeIs fixed) ∷ empty ⇒ sw 0x63C3 ∷ [])
+    ∷ plays fixedCard (resets ⇒ sw 0x9000 ∷ empty ⇒ sw 0x63C3 ∷ right ⇒ sw 0x9000 ∷ resets ⇒ sw 0x9000 ∷ empty ⇒ sw 0x9000 ∷ [])
     ∷ []
 
 -- ---- further rules
 
 -- checks 1 to 5, in their order
-abbrev pub checks : List Bool
+abbrev pub checks : List Row
 checks =
-    plays fixed (tell 6 0x00A404000000 ⇒ sw 0x6700
+    plays fixedCard (tell 6 0x00A404000000 ⇒ sw 0x6700
     ∷ tell 7 0x00A40400030000 ⇒ sw 0x6700
     ∷ sends (replicate 258 0xBB) (hex 5 0x00DB3FFFFF ++ replicate 257 0) ⇒ sw 0x6700
     ∷ sends (replicate 258 0xBB) (hex 5 0x00DB3FFFFF ++ replicate 256 0) ⇒ sw 0x6982
@@ -255,7 +281,7 @@ checks =
     ∷ tell 4 0x80FF0000 ⇒ sw 0x6E00
     ∷ tell 4 0x10FF0000 ⇒ sw 0x6D00
     ∷ tell 4 0x10200080 ⇒ sw 0x6884 ∷ [])
-    ∷ playsAir fixed (tell 4 0x10200080 ⇒ sw 0x6884
+    ∷ playsAir fixedCard (tell 4 0x10200080 ⇒ sw 0x6884
     ∷ empty ⇒ sw 0x6A81
     ∷ tell 4 0x00240080 ⇒ sw 0x6A81
     ∷ resets ⇒ sw 0x6A81
@@ -264,20 +290,20 @@ checks =
     ∷ []
 
 -- SELECT, GET DATA and GET RESPONSE
-abbrev pub reading : List Bool
+abbrev pub reading : List Row
 reading =
-    plays fixed (tell 4 0x00A40000 ⇒ sw 0x6A86
+    plays fixedCard (tell 4 0x00A40000 ⇒ sw 0x6A86
     ∷ tell 10 0x00A4040005A000000308 ⇒ sw 0x6A82
     ∷ tell 16 0x00A404000BA000000308000010000100 ⇒ selected
     ∷ tell 15 0x00A4040009A0000003080000100005 ⇒ bytes (hex 7 0x61164F0BA0_6113)
     ∷ tell 5 0x00C0000003 ⇒ bytes (hex 5 0x000003_6110)
     ∷ more ⇒ both (bytes (hex 18 0x0800001000010079074F05A000000308_9000)) (workIs (zeros workSize))
     ∷ more ⇒ sw 0x6985 ∷ [])
-    ∷ plays (putObject fixed 1 (replicate 700 7)) (tell 11 0x00CB3FFF055C035FC10200 ⇒ sized 256 0x6100
+    ∷ plays (filled fixedCard 1 (replicate 700 7)) (tell 11 0x00CB3FFF055C035FC10200 ⇒ sized 256 0x6100
     ∷ more ⇒ sized 256 0x61C0
     ∷ tell 4 0x00C00001 ⇒ both (sw 0x6A86) (workIs (zeros workSize))
     ∷ more ⇒ sw 0x6985 ∷ [])
-    ∷ plays fixed (tell 4 0x00CB3F00 ⇒ sw 0x6A86
+    ∷ plays fixedCard (tell 4 0x00CB3F00 ⇒ sw 0x6A86
     ∷ tell 9 0x00CB3FFF045C027F61 ⇒ sw 0x6A80
     ∷ tell 11 0x00CB3FFF06_5C035FC10200 ⇒ sw 0x6A80
     ∷ tell 11 0x00CB3FFF06_5C81035FC102 ⇒ sw 0x6A80
@@ -285,22 +311,22 @@ reading =
     ∷ tell 10 0x00CB3FFF05_5C0300007E ⇒ sw 0x6A82
     ∷ tell 8 0x00CB3FFF03_5C017E ⇒ sw 0x6A82
     ∷ tell 6 0x00C000000100 ⇒ sw 0x6700 ∷ [])
-    ∷ playsAir (putObject fixed 0 (hex 1 0x55)) (container ⇒ sw 0x6982
+    ∷ playsAir (filled fixedCard 0 (hex 1 0x55)) (container ⇒ sw 0x6982
     ∷ tell 10 0x00CB3FFF05_5C035FC104 ⇒ sw 0x6A82
     ∷ tell 10 0x00CB3FFF05_5C035FC102 ⇒ sw 0x6A82 ∷ [])
     ∷ []
 
 -- VERIFY, CHANGE REFERENCE DATA and RESET RETRY COUNTER: tries counted apart, what each does to the status
-abbrev pub references : List Bool
+abbrev pub references : List Row
 references =
-    plays fixed (tell 4 0x00200180 ⇒ sw 0x6A86
+    plays fixedCard (tell 4 0x00200180 ⇒ sw 0x6A86
     ∷ tell 4 0x00200000 ⇒ sw 0x6A88
     ∷ right ⇒ sw 0x9000
     ∷ tell 6 0x0020FF800131 ⇒ sw 0x6A80
     ∷ empty ⇒ sw 0x9000
     ∷ tell 4 0x0020FF80 ⇒ sw 0x9000
     ∷ empty ⇒ sw 0x63C3 ∷ [])
-    ∷ plays fixed (tell 4 0x00240180 ⇒ sw 0x6A86
+    ∷ plays fixedCard (tell 4 0x00240180 ⇒ sw 0x6A86
     ∷ tell 4 0x00240082 ⇒ sw 0x6A81
     ∷ tell 20 0x002400800F_313233343536FFFF313233343536FF ⇒ sw 0x6A80
     ∷ tell 21 0x0024008010_313233343537FFFF_3132333435FFFFFF ⇒ sw 0x6A80
@@ -309,7 +335,7 @@ references =
     ∷ empty ⇒ sw 0x9000
     ∷ right ⇒ sw 0x63C2
     ∷ tell 13 0x0020008008_393939393939FFFF ⇒ sw 0x9000 ∷ [])
-    ∷ plays fixed (right ⇒ sw 0x9000
+    ∷ plays fixedCard (right ⇒ sw 0x9000
     ∷ tell 21 0x0024008110_00000000000000FF_FFFFFFFFFFFFFFFF ⇒ sw 0x63C2
     ∷ empty ⇒ sw 0x9000
     ∷ tell 21 0x0024008110_3132333435363738_00000000000000FF ⇒ sw 0x9000
@@ -318,7 +344,7 @@ references =
     ∷ tell 21 0x002C008010_00000000000000FF_3132333435FFFFFF ⇒ sw 0x6A80
     ∷ tell 21 0x002C008010_00000000000000FF_393939393939FFFF ⇒ sw 0x9000
     ∷ tell 13 0x0020008008_393939393939FFFF ⇒ sw 0x9000 ∷ [])
-    ∷ plays fixed (tell 4 0x002C0180 ⇒ sw 0x6A86
+    ∷ plays fixedCard (tell 4 0x002C0180 ⇒ sw 0x6A86
     ∷ tell 4 0x002C0081 ⇒ sw 0x6A81
     ∷ wrong ⇒ sw 0x63C2 ∷ wrong ⇒ sw 0x63C1 ∷ wrong ⇒ sw 0x63C0
     ∷ tell 4 0x00240080 ⇒ sw 0x6983
@@ -335,9 +361,9 @@ rsaFirst = sends (replicate 258 0xBB) (hex 5 0x1087079AFF ++ (hex 10 0x7C8201068
 abbrev pub rsaLast : Call
 rsaLast = sends (replicate 258 0xBB) (hex 5 0x0087079A0B ++ replicate 11 0x5A)
 
-abbrev pub keys : List Bool
+abbrev pub keys : List Row
 keys =
-    plays keyed (rsaFirst ⇒ sw 0x6982
+    plays keyedCard (rsaFirst ⇒ sw 0x6982
     ∷ right ⇒ sw 0x9000
     ∷ rsaFirst ⇒ sw 0x9000
     ∷ rsaLast ⇒ both (job 0x9A 0x07 (replicate 256 0x5A)) (workIs (zeros workSize))
@@ -347,7 +373,7 @@ keys =
     ∷ tell 17 0x0087079A0C_5A5A5A5A5A5A5A5A5A5A5A5A ⇒ both (sw 0x6A80) (workIs (zeros workSize))
     ∷ rsaFirst ⇒ sw 0x9000
     ∷ tell 16 0x0087079E0B_5A5A5A5A5A5A5A5A5A5A5A ⇒ both (sw 0x6A80) (workIs (zeros workSize)) ∷ [])
-    ∷ plays keyed (right ⇒ sw 0x9000
+    ∷ plays keyedCard (right ⇒ sw 0x9000
     ∷ sends (replicate 258 0xBB) (hex 5 0x0087119C26 ++ (hex 6 0x7C2482008120 ++ replicate 32 0x5A)) ⇒ job 0x9C 0x11 (replicate 32 0x5A)
     ∷ tell 4 0x00C00000 ⇒ refused 5
     ∷ done 0 0 ⇒ refused 7
@@ -358,8 +384,8 @@ keys =
     ∷ failed ⇒ sw 0x6F00
     ∷ sends (replicate 258 0xBB) (hex 5 0x0087119D47 ++ (hex 7 0x7C458200814104 ++ replicate 64 0x5A)) ⇒ sw 0x6A80
     ∷ tell 4 0x0087079C ⇒ sw 0x6A86 ∷ [])
-    ∷ playsAir keyed (tell 4 0x0087119C ⇒ sw 0x6982 ∷ asks ⇒ sw 0x6982 ∷ tell 4 0x0087079E ⇒ sw 0x6A80 ∷ [])
-    ∷ plays fixed (tell 4 0x0087009A ⇒ sw 0x6A86
+    ∷ playsAir keyedCard (tell 4 0x0087119C ⇒ sw 0x6982 ∷ asks ⇒ sw 0x6982 ∷ tell 4 0x0087079E ⇒ sw 0x6A80 ∷ [])
+    ∷ plays fixedCard (tell 4 0x0087009A ⇒ sw 0x6A86
     ∷ tell 4 0x0087039B ⇒ sw 0x6A86
     ∷ asks ⇒ job 0x9B 0x00 [] ∷ makes ⇒ challenge
     ∷ tell 17 0x0087009B0C_7C0A82081112131415161719 ⇒ sw 0x6982
@@ -367,9 +393,9 @@ keys =
     ∷ tell 4 0x00DB3FFF ⇒ sw 0x6982 ∷ [])
     ∷ []
 
-abbrev pub putting : List Bool
+abbrev pub putting : List Row
 putting =
-    plays fixed (asAdmin (tell 4 0x00DB3FFE ⇒ sw 0x6A86
+    plays fixedCard (asAdmin (tell 4 0x00DB3FFE ⇒ sw 0x6A86
     ∷ tell 12 0x00DB3FFF07_5C017E53017799 ⇒ sw 0x6A80
     ∷ tell 13 0x00DB3FFF08_5C035FC104530155 ⇒ sw 0x6A82
     ∷ tell 15 0x00DB3FFF0A_5C035FC1025302550899 ⇒ sw 0x6A80
@@ -384,32 +410,37 @@ putting =
     ∷ []
 
 -- a slot full of other bytes takes one byte: all after it become zero
-abbrev pub tails : List Bool
+abbrev pub tails : List Row
 tails =
-    plays (putObject fixed 0 (replicate 512 0xEE)) (asAdmin (tell 13 0x00DB3FFF08_5C035FC107530155 ⇒ both (sw 0x9000) (storeIs (putObject fixed 0 (hex 1 0x55))) ∷ []))
+    plays (filled fixedCard 0 (replicate 512 0xEE)) (asAdmin (tell 13 0x00DB3FFF08_5C035FC107530155 ⇒ both (sw 0x9000) (storeIs (putObject fixed 0 (hex 1 0x55))) ∷ []))
     ∷ []
 
 -- ---- any possible session and any work area: what becomes zero, and what stays
 
--- the work area is full of AA, and two bytes of it are an open chain of PUT DATA
-unfoldable pub chained : Bool → State
-chained admin = state fixed (replicate workSize 0xAA) (holding (withAdmin (cleared false) admin) (Open 0xDB 0x3F 0xFF 2) Gone)
+abbrev pub full : List ℕ
+full = replicate workSize 0xAA
 
 unfoldable pub zeroFirst : ℕ → List ℕ
 zeroFirst n = zeros n ++ replicate (workSize - n) 0xAA
 
-abbrev pub heldBytes : List Bool
+-- two bytes of the work area are an open chain of PUT DATA
+abbrev pub chained : Bool → Session
+chained admin = holding (withAdmin (cleared false) admin) (Open 0xDB 0x3F 0xFF 2) Gone
+
+abbrev pub heldBytes : List Row
 heldBytes =
     -- the last piece is held with the others, one that breaks a rule for each piece is not
-    follows (chained true) (tell 6 0x00DB3FFF0155 ⇒ both (sw 0x6A80) (workIs (zeroFirst 3)) ∷ [])
-    ∷ follows (chained false) (tell 6 0x00DB3FFF0155 ⇒ both (sw 0x6982) (workIs (zeroFirst 2)) ∷ [])
+    from fixedCard full (chained true) (tell 6 0x00DB3FFF0155 ⇒ both (sw 0x6A80) (workIs (zeroFirst 3)) ∷ [])
+    ∷ from fixedCard full (chained false) (tell 6 0x00DB3FFF0155 ⇒ both (sw 0x6982) (workIs (zeroFirst 2)) ∷ [])
     -- another P2, another command: the chain is dropped, and the piece is not added
-    ∷ follows (chained true) (tell 6 0x10DB3FFE0155 ⇒ both (sw 0x6A86) (workIs (zeroFirst 2)) ∷ [])
-    ∷ follows (chained true) (tell 3 0x00A404 ⇒ both (sw 0x6700) (workIs (zeroFirst 2)) ∷ [])
-    ∷ follows (chained true) (tell 4 0x00C00000 ⇒ both (sw 0x6985) (workIs (zeroFirst 2)) ∷ [])
-    -- a piece that is not the last is added; a command in one piece and an answer that fits Le are never held
-    ∷ follows (chained true) (tell 6 0x10DB3FFF0155 ⇒ both (sw 0x9000) (workIs (replicate 2 0xAA ++ (0x55 ∷ replicate (workSize - 3) 0xAA))) ∷ [])
-    ∷ follows (state fixed (replicate workSize 0xAA) (withAdmin (cleared false) true)) (tell 6 0x00DB3FFF0155 ⇒ both (sw 0x6A80) (workIs (zeroFirst 0)) ∷ select ⇒ both selected (workIs (zeroFirst 0)) ∷ [])
+    ∷ from fixedCard full (chained true) (tell 6 0x10DB3FFE0155 ⇒ both (sw 0x6A86) (workIs (zeroFirst 2)) ∷ [])
+    ∷ from fixedCard full (chained true) (tell 3 0x00A404 ⇒ both (sw 0x6700) (workIs (zeroFirst 2)) ∷ [])
+    ∷ from fixedCard full (chained true) (tell 4 0x00C00000 ⇒ both (sw 0x6985) (workIs (zeroFirst 2)) ∷ [])
+    -- a piece that is not the last is added
+    ∷ from fixedCard full (chained true) (tell 6 0x10DB3FFF0155 ⇒ both (sw 0x9000) (workIs (replicate 2 0xAA ++ (0x55 ∷ replicate (workSize - 3) 0xAA))) ∷ [])
+    -- a command in one piece and an answer that fits Le are never held
+    ∷ from fixedCard full (withAdmin (cleared false) true) (tell 6 0x00DB3FFF0155 ⇒ both (sw 0x6A80) (workIs full) ∷ [])
+    ∷ from fixedCard full (withAdmin (cleared false) true) (select ⇒ both selected (workIs full) ∷ [])
     ∷ []
 
 -- ---- the layout: the slots stand one behind the other, from 32 to the end of the store
@@ -417,8 +448,8 @@ heldBytes =
 unfoldable pub behind : ℕ → Bool
 behind i = eqb (offset (suc i)) (offset i + 2 + capacity i)
 
-abbrev pub layout : List Bool
-layout = eqb (offset 0) 32 ∷ allBelow behind 11 ∷ eqb (offset 11 + 2 + capacity 11) storeSize ∷ []
+abbrev pub layout : List Row
+layout = fact (eqb (offset 0) 32) ∷ fact (allBelow behind 11) ∷ fact (eqb (offset 11 + 2 + capacity 11) storeSize) ∷ []
 
 -- ---- calls the host may not make, in their order, where several apply
 
@@ -426,19 +457,19 @@ layout = eqb (offset 0) 32 ∷ allBelow behind 11 ∷ eqb (offset 11 + 2 + capac
 abbrev pub impossible : Session
 impossible = holding (cleared false) (Open 0x20 0 0 0) Gone
 
-abbrev pub refusals : List Bool
+abbrev pub refusals : List Row
 refusals =
-    follows (state (0 ∷ fixed) (zeros 5) impossible) (sends [] [] ⇒ refused 1 ∷ powers true ⇒ refused 1 ∷ done 1 0 ⇒ refused 1 ∷ [])
-    ∷ follows (state fixed (zeros 5) impossible) (sends [] [] ⇒ refused 2 ∷ done 1 0 ⇒ refused 2 ∷ powers true ⇒ refused 4 ∷ [])
-    ∷ follows (state fixed (zeros 5) (cleared false)) (sends [] [] ⇒ refused 3 ∷ sends (zeros 258) [] ⇒ refused 4 ∷ [])
-    ∷ follows (state fixed (zeros workSize) (cleared false)) (sends (zeros 258) [] ⇒ sw 0x6700 ∷ done 16 0 ⇒ refused 6 ∷ asks ⇒ job 0x9B 0x00 [] ∷ asks ⇒ refused 5 ∷ done 15 0 ⇒ refused 7 ∷ failed ⇒ sw 0x6F00 ∷ [])
+    from (overlong fixedCard) (zeros 5) impossible (sends [] [] ⇒ refused 1 ∷ powers true ⇒ refused 1 ∷ done 1 0 ⇒ refused 1 ∷ [])
+    ∷ from fixedCard (zeros 5) impossible (sends [] [] ⇒ refused 2 ∷ done 1 0 ⇒ refused 2 ∷ powers true ⇒ refused 4 ∷ [])
+    ∷ from fixedCard (zeros 5) (cleared false) (sends [] [] ⇒ refused 3 ∷ sends (zeros 258) [] ⇒ refused 4 ∷ [])
+    ∷ plays fixedCard (sends (zeros 258) [] ⇒ sw 0x6700 ∷ done 16 0 ⇒ refused 6 ∷ asks ⇒ job 0x9B 0x00 [] ∷ asks ⇒ refused 5 ∷ done 15 0 ⇒ refused 7 ∷ failed ⇒ sw 0x6F00 ∷ [])
     ∷ []
 
 -- ---- the table and the claim
 
-abbrev pub table : List Bool
+abbrev pub table : List Row
 table =
     starredCases ++ (wrongCards ++ (harmlessErrors ++ (checks ++ (reading ++ (references ++ (keys ++ (putting ++ (tails ++ (heldBytes ++ (layout ++ refusals))))))))))
 
 abbrev pub Holds : Type 0
-Holds = allTrue table ≡ true
+Holds = allTrue (map passes table) ≡ true
