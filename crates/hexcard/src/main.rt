@@ -122,7 +122,7 @@ fn main() {
     let mut work = [0u8; 13321];
     let mut resp = [0u8; 258];
     let mut line = [0u8; 1024];
-    hexlines::fixed_card(&mut store);
+    issued::fixed_card(&mut store);
     let reply = card::power_on(&store, &mut work, false);
     run(reply.session, &mut store, &mut work, &mut resp, &mut line);
 }

@@ -1,6 +1,5 @@
--- Laws: the fixed card, a command's turn, and the line that is printed.
+-- Laws: a command's turn, and the line that is printed.
 --
---   fixed-whole            the head and the zeros behind it are the fixed card
 --   turned                 a command's turn, by its answer
 --   printed-length print-end    the hex of a response, and the end of its line
 --
@@ -12,27 +11,13 @@ use native.Mathlib.Omega.{arith}
 use lib.ListN.{length, take, length-append, length-take}
 use Rattle.rules.specs.declared.Answer.{Answer}
 use Rattle.rules.specs.declared.Reply.{Reply}
-use Rattle.rules.specs.Bytes.{splice, zeros}
+use Rattle.rules.specs.Bytes.{splice}
 use Rattle.rules.specs.Session.{State}
 use Rattle.rules.specs.Calls.{Outcome, outcome, sends, call}
-use Rattle.rules.specs.Claims.Starred.{hex, fixed}
-use Rattle.rules.proofs.Lists.{splice-next, join-start}
-use Rattle.octets.proofs.Laws.{length-zeros, whole}
+use Rattle.rules.proofs.Lists.{splice-next}
 use Rattle.text.specs.Text.{hexOf}
 use Rattle.text.proofs.Laws.{length-hex}
 use Rattle.hexlines.specs.HexLines.{closed, turn}
-
--- ---- the fixed card
-
-abbrev pub head : List ℕ
-head = hex 32 0x4F50430001000000_0303313233343536FFFF_03033132333435363738_00000000
-
-pub fixed-whole : (s x y : List ℕ) → length s ≡ 33400 → x ≡ splice s 0 head → y ≡ splice x 32 (zeros 33368) → y ≡ fixed
-unfolding fixed
-fixed-whole s x y h p q =
-    let l : length (head ++ zeros 33368) ≡ 33400 = length-append head (zeros 33368) ∙ ap (λ (n : ℕ). 32 + n) (length-zeros 33368) in
-    q ∙ ap (λ (t : List ℕ). splice t 32 (zeros 33368)) p
-    ∙ join-start s head (zeros 33368) (omega (arith, length-zeros 33368)) ∙ whole s (head ++ zeros 33368) (omega arith)
 
 -- ---- a command
 

@@ -1,4 +1,4 @@
-// Hex lines: the program of 01's "Checked examples", line by line: the fixed card, and what a line comes to on it.
+// Hex lines: the program of 01's "Checked examples", line by line: what a line comes to on the card.
 use rules::Answer;
 use rules::Reply;
 use rules::Session;
@@ -10,56 +10,10 @@ ghost use lib.ListN.{length, take};
 ghost use Rattle.rules.specs.Bytes.{splice};
 ghost use Rattle.rules.specs.Session.{state};
 ghost use Rattle.rules.specs.Calls.{outcome};
-ghost use Rattle.rules.specs.Claims.Starred.{fixed};
 ghost use Rattle.text.specs.Seen.{seen};
 ghost use Rattle.text.specs.Text.{bytesOf, hexOf};
 ghost use Rattle.hexlines.specs.HexLines.{isCommand, answered};
 ghost use Rattle.hexlines.specs.HexLines.{shown as HexLines·shown, turn as HexLines·turn};
-
-// PIN 123456, PUK 12345678, limits 3, all tries left, no keys.
-const HEAD: [u8; 32] = [
-    0x4F,
-    0x50,
-    0x43,
-    0x00,
-    0x01,
-    0x00,
-    0x00,
-    0x00,
-    0x03,
-    0x03,
-    0x31,
-    0x32,
-    0x33,
-    0x34,
-    0x35,
-    0x36,
-    0xFF,
-    0xFF,
-    0x03,
-    0x03,
-    0x31,
-    0x32,
-    0x33,
-    0x34,
-    0x35,
-    0x36,
-    0x37,
-    0x38,
-    0x00,
-    0x00,
-    0x00,
-    0x00,
-];
-
-pub fn fixed_card(store: &mut [u8])
-    requires { ⌜ length (now store) ≡ 33400 ⌝ }
-    ensures { λ _. ⌜ now (store .exit) ≡ fixed ⌝ }
-{
-    let head = HEAD;
-    octets::put(store, 0, &head);
-    octets::zero(store, 32, 33368);
-}
 
 fn is_command(line: &[u8]) -> bool
     ensures { λ r. ⌜ r ≡ isCommand (now (line .entry)) ⌝ }

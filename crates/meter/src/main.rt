@@ -115,7 +115,7 @@ fn run(session: Session, store: &mut [u8], work: &mut [u8], resp: &mut [u8], scr
 fn issue(store: &mut [u8])
     requires { ⌜ length (now store) ≡ 33400 ⌝ }
 {
-    hexlines::fixed_card(store);
+    issued::fixed_card(store);
     let keys = [0x07, 0x11, 0x11, 0x07];
     octets::put(store, 28, &keys);
 }

@@ -62,7 +62,7 @@ fn lend(buffer: &mut [u8], lent: usize, line: &[u8], from: usize) -> usize
     requires { ⌜ lent ≤ length (now buffer) ⌝ }
     ensures { λ r. ⌜ r ≤ length (now (buffer .entry)) ⌝ }
 {
-    if probelines::place(buffer, line, 0, from) {
+    if placing::place(buffer, line, 0, from) {
         io::write_all(STDOUT_FILENO, b"ok\n");
         return least(text::after(line, from).len() / 2, buffer.len());
     }
@@ -212,7 +212,7 @@ fn run(d: Desk, store: &mut [u8], work: &mut [u8], resp: &mut [u8], line: &mut [
 fn start(store: &mut [u8])
     requires { ⌜ length (now store) ≡ 40000 ⌝ }
 {
-    hexlines::fixed_card(&mut store[..33400]);
+    issued::fixed_card(&mut store[..33400]);
 }
 
 fn main() {

@@ -1,6 +1,5 @@
--- Laws: bytes that a line gives, placed or not, and the session that a line gives.
+-- Laws: the session that a line gives.
 --
---   place-long place-odd place-over place-good    the tests of `place`, one after the other
 --   session-odd session-even    a line of another length gives no session, and one of 64 bytes the one that they are of
 --
 -- Assumes nothing.
@@ -20,32 +19,6 @@ use Rattle.text.specs.Text.{isDigit, isHex, bytesOf}
 use Rattle.text.proofs.Laws.{length-bytes}
 use Rattle.packed.specs.declared.Taken.the-variants.{No}
 use Rattle.packed.specs.Packed.{packed, unpacked, sessionIn}
-use Rattle.probelines.specs.ProbeLines.{placed, place}
-
--- ---- bytes that are placed
-
-module _ (s l : List ℕ) (at from : ℕ) where
-  pub place-long : 99000 < length l → placed false s ≡ place s l at from
-  unfolding place
-  place-long h = sym (off _ _ _ (and-off-left _ _ (and-off-left _ _ (lt-leb (length l) 99000 h))))
-
-  module _ (d : List ℕ) (e : d ≡ drop from l) where
-    pub place-odd : isHex d ≡ false → placed false s ≡ place s l at from
-    unfolding place
-    place-odd h = sym (off _ _ _ (and-off-left _ _ (and-off-right (leb (length l) 99000) _ (sym (ap isHex e) ∙ h))))
-
-    pub place-over : length s < at + length d / 2 → placed false s ≡ place s l at from
-    unfolding place
-    place-over h = sym (off _ _ _ (and-off-right (leb (length l) 99000 && isHex (drop from l)) _ (lt-leb (at + length (drop from l) / 2) (length s) (omega (arith, h, ap length e)))))
-
-    pub place-good : (x : List ℕ) → length l ≤ 99000 → isHex d ≡ true → at + length d / 2 ≤ length s
-        → x ≡ splice s at (take (length d / 2) (bytesOf d)) → placed true x ≡ place s l at from
-    unfolding place
-    place-good x h i f p =
-        let a : (leb (length l) 99000 && isHex (drop from l)) ≡ true = and-both _ _ (le-leb (length l) 99000 h) (sym (ap isHex e) ∙ i) in
-        let q : take (length d / 2) (bytesOf d) ≡ bytesOf d = take-all (length d / 2) (bytesOf d) (omega (arith, length-bytes d)) in
-        ap (placed true) (p ∙ ap (splice s at) (q ∙ ap bytesOf e))
-        ∙ sym (on _ _ _ (and-both _ _ a (le-leb (at + length (drop from l) / 2) (length s) (omega (arith, f, ap length e)))))
 
 -- ---- a session
 

@@ -4,23 +4,22 @@
 --   called o out          a command or a job result, with its outcome
 --   powered o p out       a power-on: the response buffer p is not lent
 --   sessionAt l           the session that a line gives
---   placed · place s l at from    the bytes that a line gives in hex, put into a buffer, if they fit
 --   answered st p l out   what a line comes to, on the card st with the response buffer p
 --
--- A line that lends another buffer is the program's own: it places the bytes and lends as many (`place` at 0).
+-- A line that lends another buffer is the program's own: it places the bytes and lends as many (`place` of `crates/placing`, at 0).
 -- Assumes nothing.
-use mathlib.Core.Bool.{Bool, true, false, _&&_}
+use mathlib.Core.Bool.{Bool, true, false}
 use mathlib.Core.List.{List, [], _∷_}
-use Prim.Native.Nat.{ℕ, _+_, _/_}
-use lib.Dec.{leb}
-use lib.ListN.{length, drop}
+use Prim.Native.Nat.{ℕ}
+use lib.ListN.{drop}
 use Rattle.rules.specs.declared.Reply.{Reply}
 use Rattle.rules.specs.declared.Session.{Session}
-use Rattle.rules.specs.Bytes.{iff, splice}
+use Rattle.rules.specs.Bytes.{iff}
 use Rattle.rules.specs.Session.{State, state}
 use Rattle.rules.specs.Calls.{Outcome, powers, sends, finishes, call}
 use Rattle.text.specs.Text.{isHex, bytesOf, badLine}
 use Rattle.text.specs.Seen.{Seen, tells}
+use Rattle.placing.specs.Placing.{place}
 use Rattle.packed.specs.declared.Taken.{Taken}
 use Rattle.packed.specs.declared.Taken.the-variants.{Is, No}
 use Rattle.packed.specs.Packed.{sessionIn}
@@ -63,19 +62,6 @@ sessionAt d = iff (isHex d) (sessionIn (bytesOf d)) No
 abbrev pub taken : State → List ℕ → Taken → List ℕ → Seen
 taken st p (Is ss) out = says (state (st .store) (st .work) ss) p true out
 taken st p No out = says st p false out
-
-pub record Placed : Type 0 where
-  pub ok : Bool
-  pub bytes : List ℕ
-
-abbrev pub placed : Bool → List ℕ → Placed
-placed ok s = record { ok = ok; bytes = s }
-
--- a line of more than 99,000 bytes gives none: no buffer has so many, and a kept line may be shorter than the line
-unfoldable pub place : List ℕ → List ℕ → ℕ → ℕ → Placed
-place s l at from =
-    let d = drop from l in
-    iff (leb (length l) 99000 && isHex d && leb (at + length d / 2) (length s)) (placed true (splice s at (bytesOf d))) (placed false s)
 
 abbrev pub put : State → List ℕ → List ℕ → Buffer → ℕ → ℕ → List ℕ → Seen
 put st p l Store at from out =

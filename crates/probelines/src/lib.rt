@@ -14,8 +14,8 @@ ghost use Rattle.rules.specs.declared.Session.{Session};
 ghost use Rattle.rules.specs.Session.{state};
 ghost use Rattle.rules.specs.Calls.{powers, finishes, call};
 ghost use Rattle.text.specs.Seen.{seen};
-ghost use Rattle.probelines.specs.ProbeLines.{says, called, powered, commanded, sessionAt, placed, answered};
-ghost use Rattle.probelines.specs.ProbeLines.{shows as ProbeLines·shows, finished as ProbeLines·finished, taken as ProbeLines·taken, place as ProbeLines·place, put as ProbeLines·put};
+ghost use Rattle.probelines.specs.ProbeLines.{says, called, powered, commanded, sessionAt, answered};
+ghost use Rattle.probelines.specs.ProbeLines.{shows as ProbeLines·shows, finished as ProbeLines·finished, taken as ProbeLines·taken, put as ProbeLines·put};
 
 // ---- what is printed
 
@@ -127,28 +127,6 @@ fn take(session: Session, t: Taken, out: &mut [u8]) -> Said
     }
 }
 
-// The bytes that a line gives in hex from a place on, put into a buffer, if they fit.
-pub fn place(buffer: &mut [u8], line: &[u8], at: usize, from: usize) -> bool
-    ensures { λ r. ⌜ placed r (now (buffer .exit)) ≡ ProbeLines·place (now (buffer .entry)) (now (line .entry)) at from ⌝ }
-{
-    if 99000 < line.len() {
-        return false;
-    }
-    let digits = text::after(line, from);
-    if !text::is_hex(digits) {
-        return false;
-    }
-    let n = digits.len() / 2;
-    if buffer.len() < n {
-        return false;
-    }
-    if buffer.len() - n < at {
-        return false;
-    }
-    text::read_hex(buffer, at, digits, n);
-    true
-}
-
 fn put(
     session: Session,
     store: &mut [u8],
@@ -165,15 +143,15 @@ fn put(
 {
     match b {
         Buffer::Store => {
-            let ok = place(store, line, at, from);
+            let ok = placing::place(store, line, at, from);
             say(session, ok, out)
         }
         Buffer::Work => {
-            let ok = place(work, line, at, from);
+            let ok = placing::place(work, line, at, from);
             say(session, ok, out)
         }
         Buffer::Resp => {
-            let ok = place(resp, line, at, from);
+            let ok = placing::place(resp, line, at, from);
             say(session, ok, out)
         }
     }

@@ -1,6 +1,6 @@
 -- Programs: the same of the public functions that the programs are built of (Once says how to read it).
 --
--- What `text::keep`, `text::bad`, `hexlines::answer`, `probelines::place` and `probelines::answer` promise is an equation of what is seen, which has the
+-- What `text::keep`, `text::bad`, `hexlines::answer`, `placing::place` and `probelines::answer` promise is an equation of what is seen, which has the
 -- parts of the outcome side by side, so it leaves one in the same way.
 -- Assumes nothing.
 use mathlib.Core.Path.{_≡_}
@@ -11,6 +11,7 @@ use denote.Ref.{RefT, now}
 use Rattle.rules.specs.declared.Reply.{Reply}
 use Rattle.packed.specs.declared.Taken.{Taken}
 use Rattle.verbs.specs.declared.Verb.{Verb}
+use Rattle.issued.proofs.fixed_card.Reads as issued-fixed-card
 use Rattle.text.proofs.is_hex.Reads as text-is-hex
 use Rattle.text.proofs.read_hex.Reads as text-read-hex
 use Rattle.text.proofs.write_hex.Reads as text-write-hex
@@ -18,7 +19,6 @@ use Rattle.text.proofs.first.Reads as text-first
 use Rattle.text.proofs.after.Reads as text-after
 use Rattle.hexcalls.proofs.command.Reads as hexcalls-command
 use Rattle.hexcalls.proofs.job_result.Reads as hexcalls-job-result
-use Rattle.hexlines.proofs.fixed_card.Reads as hexlines-fixed-card
 use Rattle.packed.proofs.pack.Reads as packed-pack
 use Rattle.packed.proofs.session_in.Reads as packed-session-in
 use Rattle.sums.proofs.sum.Reads as sums-sum
@@ -26,6 +26,11 @@ use Rattle.sums.proofs.write_decimal.Reads as sums-write-decimal
 use Rattle.outcomes.proofs.write.Reads as outcomes-write
 use Rattle.verbs.proofs.verb_of.Reads as verbs-verb-of
 use Rattle.promises.proofs.Once.{alike, by-outcome}
+
+-- ---- issued
+
+once-issued-fixed-card : (κs : _) (a : _) (s t : _) → issued-fixed-card.Post κs a tt s → issued-fixed-card.Post κs a tt t → now (s .0) ≡ now (t .0)
+once-issued-fixed-card κs a s t = alike _ _
 
 -- ---- text
 
@@ -51,11 +56,6 @@ once-hexcalls-command κs a r q s t x y = let e = by-outcome x y in (e .0, e .1,
 
 once-hexcalls-job-result : (κs : _) (a : _) (r q : Reply) (s t : _) → hexcalls-job-result.Post κs a r s → hexcalls-job-result.Post κs a q t → (r ≡ q) × (now (s .1 .1 .0) ≡ now (t .1 .1 .0)) × (now (s .1 .1 .1 .0) ≡ now (t .1 .1 .1 .0))
 once-hexcalls-job-result κs a r q s t x y = let e = by-outcome x y in (e .0, e .2, e .3)
-
--- ---- hexlines
-
-once-hexlines-fixed-card : (κs : _) (a : _) (s t : _) → hexlines-fixed-card.Post κs a tt s → hexlines-fixed-card.Post κs a tt t → now (s .0) ≡ now (t .0)
-once-hexlines-fixed-card κs a s t = alike _ _
 
 -- ---- packed
 

@@ -2,11 +2,11 @@
 -- Assumes nothing.
 use denote.Ref.{now}
 use Rattle.rules.proofs.Tests.{passes, fails}
-use Rattle.probelines.proofs.Laws.{place-long, place-odd, place-over, place-good}
+use Rattle.placing.proofs.Laws.{place-long, place-odd, place-over, place-good}
 use native.Mathlib.Omega.{arith}
 use borrow.Author.Needs.{needs}
-use Rattle.probelines.proofs.place.Statement.{statement}
-use Rattle.probelines.proofs.place.Tie as tie
+use Rattle.placing.proofs.place.Statement.{statement}
+use Rattle.placing.proofs.place.Tie as tie
 
 returns : tie.Need-returns
 returns c =

@@ -1,10 +1,10 @@
 -- The head, and zeros behind it.
 -- Assumes nothing.
 use denote.Ref.{now}
-use Rattle.hexlines.proofs.Laws.{fixed-whole}
+use Rattle.issued.proofs.Laws.{fixed-whole}
 use borrow.Author.Needs.{needs}
-use Rattle.hexlines.proofs.fixed_card.Statement.{statement}
-use Rattle.hexlines.proofs.fixed_card.Tie as tie
+use Rattle.issued.proofs.fixed_card.Statement.{statement}
+use Rattle.issued.proofs.fixed_card.Tie as tie
 
 slice-aggregate-put : tie.Need-slice-aggregate-put
 slice-aggregate-put c = search needs
