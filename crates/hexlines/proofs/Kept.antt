@@ -13,8 +13,8 @@ use borrow.Author.Tests.{lt-ltb}
 use Rattle.rules.specs.Bytes.{iff}
 use Rattle.rules.specs.Session.{State}
 use Rattle.rules.specs.Calls.{Outcome}
-use Rattle.text.specs.Seen.{Seen, tells}
-use Rattle.text.specs.Text.{bytesOf, badLine, keptLine}
+use Rattle.lines.specs.Seen.{Seen, tells, badLine}
+use Rattle.text.specs.Text.{bytesOf, keptLine}
 use Rattle.text.proofs.Laws.{length-bytes}
 use Rattle.text.proofs.Kept.{Kin, itself, long, kept-kin, kin-hex}
 use Rattle.hexcalls.proofs.Laws.{sends-long}

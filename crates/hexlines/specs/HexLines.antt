@@ -16,8 +16,8 @@ use Rattle.rules.specs.declared.Answer.the-variants.{PoweredOn, Response, JobOp
 use Rattle.rules.specs.Bytes.{iff}
 use Rattle.rules.specs.Session.{State, state}
 use Rattle.rules.specs.Calls.{Outcome, sends, finishes, call}
-use Rattle.text.specs.Seen.{Seen, tells}
-use Rattle.text.specs.Text.{isHex, bytesOf, hexOf, badLine}
+use Rattle.lines.specs.Seen.{Seen, tells, badLine}
+use Rattle.text.specs.Text.{isHex, bytesOf, hexOf}
 
 -- a line that is empty, of odd length or not hex reaches no card
 unfoldable pub isCommand : List ℕ → Bool

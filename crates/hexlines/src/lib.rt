@@ -1,8 +1,8 @@
 // Hex lines: the program of 01's "Checked examples", line by line: what a line comes to on the card.
+use lines::Said;
 use rules::Answer;
 use rules::Reply;
 use rules::Session;
-use text::Said;
 ghost use mathlib.Core.Path.{_≡_};
 ghost use mathlib.Core.List.{_++_, [], _∷_};
 ghost use Prim.Native.Nat.{_+_, _*_, _≤_};
@@ -10,7 +10,7 @@ ghost use lib.ListN.{length, take};
 ghost use Rattle.rules.specs.Bytes.{splice};
 ghost use Rattle.rules.specs.Session.{state};
 ghost use Rattle.rules.specs.Calls.{outcome};
-ghost use Rattle.text.specs.Seen.{seen};
+ghost use Rattle.lines.specs.Seen.{seen};
 ghost use Rattle.text.specs.Text.{bytesOf, hexOf};
 ghost use Rattle.hexlines.specs.HexLines.{isCommand, answered};
 ghost use Rattle.hexlines.specs.HexLines.{shown as HexLines·shown, turn as HexLines·turn};
@@ -63,7 +63,7 @@ fn print(a: Answer, resp: &[u8], out: &mut [u8]) -> usize
     requires { ⌜ 2 * length (now resp) + 1 ≤ length (now out) ⌝ }
     ensures { λ r. ⌜ (r ≡ length (hexOf (take (HexLines·shown a) (now (resp .entry))) ++ (10 ∷ []))) × (now (out .exit) ≡ splice (now (out .entry)) 0 (hexOf (take (HexLines·shown a) (now (resp .entry))) ++ (10 ∷ []))) ⌝ }
 {
-    let end = text::write_hex(out, 0, text::first(resp, shown(a)));
+    let end = text::write_hex(out, 0, lines::first(resp, shown(a)));
     octets::put_byte(out, end, 10);
     end + 1
 }
@@ -80,7 +80,7 @@ pub fn answer(
     ensures { λ r. ⌜ seen (r .session) (now (store .exit)) (now (work .exit)) (now (resp .exit)) (r .len) (now (out .exit)) ≡ answered (state (now (store .entry)) (now (work .entry)) session) (now (resp .entry)) (now (line .entry)) (now (out .entry)) ⌝ }
 {
     if !is_command(line) {
-        return text::bad(session, out);
+        return lines::bad(session, out);
     }
     let r = turn(session, store, work, resp, line);
     let a = r.answer;

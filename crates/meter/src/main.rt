@@ -99,14 +99,14 @@ fn run(session: Session, store: &mut [u8], work: &mut [u8], resp: &mut [u8], scr
         store,
         work,
         resp,
-        text::first(text::after(script, 6), once),
+        lines::first(lines::after(script, 6), once),
     );
     rounds(
         first,
         store,
         work,
         resp,
-        text::after(text::after(script, 6), once),
+        lines::after(lines::after(script, 6), once),
         n,
     )
 }

@@ -42,7 +42,7 @@ fn write_response(out: &mut [u8], resp: &[u8], len: usize) -> usize
     ensures { λ r. ⌜ (r ≡ length (kind (Response len) (now (resp .entry)))) × (now (out .exit) ≡ splice (now (out .entry)) 0 (kind (Response len) (now (resp .entry)))) ⌝ }
 {
     octets::put_byte(out, 0, b'R');
-    write_marked(out, 1, b' ', text::first(resp, len))
+    write_marked(out, 1, b' ', lines::first(resp, len))
 }
 
 fn write_job(out: &mut [u8], resp: &[u8], key: u8, alg: u8, len: usize) -> usize
@@ -52,7 +52,7 @@ fn write_job(out: &mut [u8], resp: &[u8], key: u8, alg: u8, len: usize) -> usize
     octets::put_byte(out, 0, b'J');
     let named = [key, alg];
     let next = write_marked(out, 1, b' ', &named);
-    write_marked(out, next, b':', text::first(resp, len))
+    write_marked(out, next, b':', lines::first(resp, len))
 }
 
 fn write_kind(out: &mut [u8], a: Answer, resp: &[u8]) -> usize

@@ -10,7 +10,7 @@ pub fn place(buffer: &mut [u8], line: &[u8], at: usize, from: usize) -> bool
     if 99000 < line.len() {
         return false;
     }
-    let digits = text::after(line, from);
+    let digits = lines::after(line, from);
     if !text::is_hex(digits) {
         return false;
     }

@@ -64,7 +64,7 @@ fn lend(buffer: &mut [u8], lent: usize, line: &[u8], from: usize) -> usize
 {
     if placing::place(buffer, line, 0, from) {
         io::write_all(STDOUT_FILENO, b"ok\n");
-        return least(text::after(line, from).len() / 2, buffer.len());
+        return least(lines::after(line, from).len() / 2, buffer.len());
     }
     io::write_all(STDOUT_FILENO, b"bad line\n");
     lent

@@ -17,8 +17,8 @@ use Rattle.rules.specs.declared.Session.{Session}
 use Rattle.rules.specs.Bytes.{iff}
 use Rattle.rules.specs.Session.{State, state}
 use Rattle.rules.specs.Calls.{Outcome, powers, sends, finishes, call}
-use Rattle.text.specs.Text.{isHex, bytesOf, badLine}
-use Rattle.text.specs.Seen.{Seen, tells}
+use Rattle.text.specs.Text.{isHex, bytesOf}
+use Rattle.lines.specs.Seen.{Seen, tells, badLine}
 use Rattle.placing.specs.Placing.{place}
 use Rattle.packed.specs.declared.Taken.{Taken}
 use Rattle.packed.specs.declared.Taken.the-variants.{Is, No}

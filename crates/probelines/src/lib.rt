@@ -1,8 +1,8 @@
 // Probe lines: what a line of the program probe comes to on the card. One function for each kind of line.
+use lines::Said;
 use packed::Taken;
 use rules::Reply;
 use rules::Session;
-use text::Said;
 use verbs::Buffer;
 use verbs::Verb;
 ghost use mathlib.Core.Path.{_≡_};
@@ -13,7 +13,7 @@ ghost use lib.ListN.{length};
 ghost use Rattle.rules.specs.declared.Session.{Session};
 ghost use Rattle.rules.specs.Session.{state};
 ghost use Rattle.rules.specs.Calls.{powers, finishes, call};
-ghost use Rattle.text.specs.Seen.{seen};
+ghost use Rattle.lines.specs.Seen.{seen};
 ghost use Rattle.probelines.specs.ProbeLines.{says, called, powered, commanded, sessionAt, answered};
 ghost use Rattle.probelines.specs.ProbeLines.{shows as ProbeLines·shows, finished as ProbeLines·finished, taken as ProbeLines·taken, put as ProbeLines·put};
 
@@ -24,7 +24,7 @@ fn say(session: Session, ok: bool, out: &mut [u8]) -> Said
     ensures { λ r. ⌜ ((s w p : List ℕ) → seen (r .session) s w p (r .len) (now (out .exit)) ≡ says (state s w session) p ok (now (out .entry))) ⌝ }
 {
     if !ok {
-        return text::bad(session, out);
+        return lines::bad(session, out);
     }
     let text = [b'o', b'k', b'\n'];
     octets::put(out, 0, &text);
@@ -62,7 +62,7 @@ fn command(
     ensures { λ r. ⌜ seen (r .session) (now (store .exit)) (now (work .exit)) (now (resp .exit)) (r .len) (now (out .exit)) ≡ commanded (state (now (store .entry)) (now (work .entry)) session) (now (resp .entry)) (now (digits .entry)) (now (out .entry)) ⌝ }
 {
     if !text::is_hex(digits) {
-        return text::bad(session, out);
+        return lines::bad(session, out);
     }
     let r = hexcalls::command(session, store, work, resp, digits);
     shows(r, store, work, resp, out)
@@ -80,7 +80,7 @@ fn done(
     ensures { λ r. ⌜ seen (r .session) (now (store .entry)) (now (work .exit)) (now (resp .exit)) (r .len) (now (out .exit)) ≡ ProbeLines·finished (state (now (store .entry)) (now (work .entry)) session) (now (resp .entry)) (now (digits .entry)) (now (out .entry)) ⌝ }
 {
     if !text::is_hex(digits) {
-        return text::bad(session, out);
+        return lines::bad(session, out);
     }
     let r = hexcalls::job_result(session, store, work, resp, digits);
     shows(r, store, work, resp, out)
@@ -171,13 +171,13 @@ pub fn answer(
     ensures { λ r. ⌜ seen (r .session) (now (store .exit)) (now (work .exit)) (now (resp .exit)) (r .len) (now (out .exit)) ≡ answered (state (now (store .entry)) (now (work .entry)) session) (now (resp .entry)) (now (line .entry)) (now (out .entry)) ⌝ }
 {
     match verbs::verb_of(line) {
-        Verb::Lend(_, _) => text::bad(session, out),
+        Verb::Lend(_, _) => lines::bad(session, out),
         Verb::Put(b, at, from) => put(session, store, work, resp, line, b, at, from, out),
-        Verb::Session => take(session, session_at(text::after(line, 8)), out),
+        Verb::Session => take(session, session_at(lines::after(line, 8)), out),
         Verb::PowerOn(contactless) => power_on(contactless, store, work, resp, out),
-        Verb::Command => command(session, store, work, resp, text::after(line, 4), out),
-        Verb::Done => done(session, store, work, resp, text::after(line, 5), out),
+        Verb::Command => command(session, store, work, resp, lines::after(line, 4), out),
+        Verb::Done => done(session, store, work, resp, lines::after(line, 5), out),
         Verb::Fail => fail(session, store, work, resp, line, out),
-        Verb::Other => text::bad(session, out),
+        Verb::Other => lines::bad(session, out),
     }
 }

@@ -1,6 +1,6 @@
 -- Programs: the same of the public functions that the programs are built of (Once says how to read it).
 --
--- What `text::keep`, `text::bad`, `hexlines::answer`, `placing::place` and `probelines::answer` promise is an equation of what is seen, which has the
+-- What `text::keep`, `lines::bad`, `hexlines::answer`, `placing::place` and `probelines::answer` promise is an equation of what is seen, which has the
 -- parts of the outcome side by side, so it leaves one in the same way.
 -- Assumes nothing.
 use mathlib.Core.Path.{_≡_}
@@ -15,8 +15,8 @@ use Rattle.issued.proofs.fixed_card.Reads as issued-fixed-card
 use Rattle.text.proofs.is_hex.Reads as text-is-hex
 use Rattle.text.proofs.read_hex.Reads as text-read-hex
 use Rattle.text.proofs.write_hex.Reads as text-write-hex
-use Rattle.text.proofs.first.Reads as text-first
-use Rattle.text.proofs.after.Reads as text-after
+use Rattle.lines.proofs.first.Reads as lines-first
+use Rattle.lines.proofs.after.Reads as lines-after
 use Rattle.hexcalls.proofs.command.Reads as hexcalls-command
 use Rattle.hexcalls.proofs.job_result.Reads as hexcalls-job-result
 use Rattle.packed.proofs.pack.Reads as packed-pack
@@ -43,11 +43,13 @@ once-text-read-hex κs a s t = alike _ _
 once-text-write-hex : (κs : _) (a : _) (r q : ℕ) (s t : _) → text-write-hex.Post κs a r s → text-write-hex.Post κs a q t → (r ≡ q) × (now (s .0) ≡ now (t .0))
 once-text-write-hex κs a r q s t x y = (alike r q (x .0) (y .0), alike _ _ (x .1) (y .1))
 
-once-text-first : (κs : _) (a : _) (r q : RefT (List ℕ)) (s t : _) → text-first.Post κs a r s → text-first.Post κs a q t → now r ≡ now q
-once-text-first κs a r q s t = alike _ _
+-- ---- lines
 
-once-text-after : (κs : _) (a : _) (r q : RefT (List ℕ)) (s t : _) → text-after.Post κs a r s → text-after.Post κs a q t → now r ≡ now q
-once-text-after κs a r q s t = alike _ _
+once-lines-first : (κs : _) (a : _) (r q : RefT (List ℕ)) (s t : _) → lines-first.Post κs a r s → lines-first.Post κs a q t → now r ≡ now q
+once-lines-first κs a r q s t = alike _ _
+
+once-lines-after : (κs : _) (a : _) (r q : RefT (List ℕ)) (s t : _) → lines-after.Post κs a r s → lines-after.Post κs a q t → now r ≡ now q
+once-lines-after κs a r q s t = alike _ _
 
 -- ---- hexcalls
 

@@ -5,7 +5,6 @@
 --   filled                 a row that is filled with the start of another
 --   hex-high hex-low length-hex    the digits of a row of bytes
 --   hex-append             the hex of two rows, one behind the other
---   part-after none-after  what stands behind a place
 --   keep-fits              a line that is kept fits its buffer
 --   all-at all-end         a row of digits tested from a place on
 --
@@ -83,16 +82,6 @@ hex-low (b ∷ s) (suc i) h =
 pub hex-append : (a b : List ℕ) → hexOf (a ++ b) ≡ hexOf a ++ hexOf b
 hex-append [] b = refl
 hex-append (x ∷ a) b = ap (λ (l : List ℕ). glyph (x / 16) ∷ (glyph (x % 16) ∷ l)) (hex-append a b)
-
--- ---- what stands behind a place
-
-pub part-after : (s : List ℕ) (n : ℕ) → take (length s - n) (drop n s) ≡ drop n s
-part-after s n = take-all (length s - n) (drop n s) (omega (arith, length-drop n s))
-
-pub none-after : (s : List ℕ) (n : ℕ) → length s ≤ n → take (length s - length s) (drop (length s) s) ≡ drop n s
-none-after s n h =
-    let l : length s ≤ length s = omega arith in
-    part-after s (length s) ∙ drop-of-length-le s l ∙ sym (drop-of-length-le s h)
 
 -- ---- a line that is kept
 

@@ -8,7 +8,6 @@
 --   Kept                  a line of which a buffer keeps what matters: the buffer, and how much of it is the line
 --   keep s n b            the line of the first n bytes of s, with the byte b more
 --   keptLine s l          what is kept of the line l in the buffer s
---   badLine               what is printed for a line that says nothing
 --
 -- A character is its number. Assumes nothing.
 use mathlib.Core.Bool.{Bool, true, false, _&&_, _||_}
@@ -68,9 +67,3 @@ keepAll s n (b ∷ l) = let k = keep s n b in keepAll (k .bytes) (k .len) l
 
 unfoldable pub keptLine : List ℕ → List ℕ → List ℕ
 keptLine s l = let k = keepAll s 0 l in take (k .len) (k .bytes)
-
--- ---- a line that nobody understands
-
--- "bad line", and the end of the line
-abbrev pub badLine : List ℕ
-badLine = 98 ∷ 97 ∷ 100 ∷ 32 ∷ 108 ∷ 105 ∷ 110 ∷ 101 ∷ 10 ∷ []

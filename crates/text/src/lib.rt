@@ -1,22 +1,12 @@
 // Text: bytes in hex and back, and lines of any length kept in a buffer.
 // Whoever writes text is given a buffer and a place in it, and answers the place behind what it wrote.
-use rules::Session;
 ghost use mathlib.Core.Path.{_≡_};
 ghost use mathlib.Core.Bool.{_&&_};
-ghost use mathlib.Core.List.{List};
-ghost use Prim.Native.Nat.{ℕ, _+_, _*_, _≤_, _<_};
-ghost use lib.ListN.{length, take, drop};
+ghost use Prim.Native.Nat.{_+_, _*_, _≤_, _<_};
+ghost use lib.ListN.{length, take};
 ghost use Rattle.rules.specs.Bytes.{splice};
-ghost use Rattle.rules.specs.Session.{state};
-ghost use Rattle.text.specs.Seen.{seen, tells};
-ghost use Rattle.text.specs.Text.{isDigit, digitOf, isHex, bytesOf, hexOf, kept, badLine};
+ghost use Rattle.text.specs.Text.{isDigit, digitOf, isHex, bytesOf, hexOf, kept};
 ghost use Rattle.text.specs.Text.{between as Text·between, glyph as Text·glyph, keep as Text·keep};
-
-// What a line leaves: the session, and the number of bytes that are to be printed.
-pub struct Said {
-    pub session: Session,
-    pub len: usize,
-}
 
 // ---- digits
 
@@ -137,27 +127,6 @@ pub fn write_hex(dst: &mut [u8], at: usize, s: &[u8]) -> usize
 
 // ---- a line
 
-// The first k bytes, or all where there are fewer.
-pub fn first(s: &[u8], k: usize) -> &[u8]
-    ensures { λ r. ⌜ now r ≡ take k (now (s .entry)) ⌝ }
-{
-    if k < s.len() {
-        return &s[..k];
-    }
-    s
-}
-
-// What stands behind the first n bytes; nothing where there are fewer.
-pub fn after(s: &[u8], n: usize) -> &[u8]
-    ensures { λ r. ⌜ now r ≡ drop n (now (s .entry)) ⌝ }
-{
-    if n < s.len() {
-        return &s[n..];
-    }
-    let end = s.len();
-    &s[end..]
-}
-
 // The line whose first n bytes are kept in the buffer, with one byte more.
 pub fn keep(line: &mut [u8], n: usize, b: u8) -> usize
     requires { ⌜ (n ≤ length (now line)) × (1 ≤ length (now line)) ⌝ }
@@ -172,14 +141,4 @@ pub fn keep(line: &mut [u8], n: usize, b: u8) -> usize
     }
     octets::put_byte(line, 0, 0);
     n
-}
-
-// "bad line", and the card as it was.
-pub fn bad(session: Session, out: &mut [u8]) -> Said
-    requires { ⌜ 9 ≤ length (now out) ⌝ }
-    ensures { λ r. ⌜ ((s w p : List ℕ) → seen (r .session) s w p (r .len) (now (out .exit)) ≡ tells (state s w session) p badLine (now (out .entry))) ⌝ }
-{
-    let bad = [98, 97, 100, 32, 108, 105, 110, 101, 10];
-    octets::put(out, 0, &bad);
-    Said { session, len: 9 }
 }

@@ -58,7 +58,7 @@ const ON_CONTACTLESS: [u8; 4] = [111, 110, 32, 49];
 fn starts(l: &[u8], from: usize, w: &[u8]) -> bool
     ensures { λ r. ⌜ r ≡ Verbs·starts (now (l .entry)) from (now (w .entry)) ⌝ }
 {
-    octets::same(text::first(text::after(l, from), w.len()), w)
+    octets::same(lines::first(lines::after(l, from), w.len()), w)
 }
 
 fn buffer_at(l: &[u8], from: usize) -> Named

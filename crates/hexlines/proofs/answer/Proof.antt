@@ -6,7 +6,7 @@ use Prim.Native.Nat.{ℕ}
 use denote.Ref.{now}
 use Rattle.rules.specs.Calls.{Outcome}
 use Rattle.rules.proofs.Tests.{on, off, passes, fails}
-use Rattle.text.specs.Seen.{Seen, seen}
+use Rattle.lines.specs.Seen.{Seen, seen}
 use Rattle.hexlines.specs.HexLines.{printed, told, answered}
 use borrow.Author.Needs.{needs}
 use Rattle.hexlines.proofs.answer.Statement.{statement}

@@ -4,7 +4,8 @@ use mathlib.Core.Path.{ap, sym, _∙_}
 use denote.Ref.{now}
 use Rattle.rules.specs.Session.{state}
 use Rattle.verbs.specs.declared.Buffer.{Buffer}
-use Rattle.probelines.specs.ProbeLines.{says, Placed, put}
+use Rattle.placing.specs.Placing.{Placed}
+use Rattle.probelines.specs.ProbeLines.{says, put}
 use borrow.Author.Needs.{needs}
 use Rattle.probelines.proofs.put.Statement.{statement}
 use Rattle.probelines.proofs.put.Tie as tie

@@ -7,7 +7,7 @@ use denote.Ref.{now}
 use borrow.Author.Tests.{not-true, not-false}
 use Rattle.rules.specs.Session.{state}
 use Rattle.rules.proofs.Tests.{on, off}
-use Rattle.text.specs.Seen.{seen, tells}
+use Rattle.lines.specs.Seen.{seen, tells}
 use Rattle.probelines.specs.ProbeLines.{says}
 use borrow.Author.Needs.{needs}
 use Rattle.probelines.proofs.say.Statement.{statement}

@@ -2,7 +2,7 @@
 -- Assumes nothing.
 use mathlib.Core.Path.{ap₂}
 use denote.Ref.{now}
-use Rattle.text.specs.Seen.{Seen, seen}
+use Rattle.lines.specs.Seen.{Seen, seen}
 use Rattle.probelines.specs.ProbeLines.{shows}
 use borrow.Author.Needs.{needs}
 use Rattle.probelines.proofs.shows.Statement.{statement}

@@ -1,10 +1,10 @@
 -- The text, whatever the card is.
 -- Assumes nothing.
 use mathlib.Core.Path.{ap}
-use Rattle.text.specs.Seen.{seen}
+use Rattle.lines.specs.Seen.{seen}
 use borrow.Author.Needs.{needs}
-use Rattle.text.proofs.bad.Statement.{statement}
-use Rattle.text.proofs.bad.Tie as tie
+use Rattle.lines.proofs.bad.Statement.{statement}
+use Rattle.lines.proofs.bad.Tie as tie
 
 slice-aggregate-put : tie.Need-slice-aggregate-put
 slice-aggregate-put c = search needs

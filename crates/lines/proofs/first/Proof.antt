@@ -5,8 +5,8 @@ use lib.ListN.{length-take}
 use lib.Seq.{take-all}
 use native.Mathlib.Omega.{arith}
 use borrow.Author.Needs.{needs}
-use Rattle.text.proofs.first.Statement.{statement}
-use Rattle.text.proofs.first.Tie as tie
+use Rattle.lines.proofs.first.Statement.{statement}
+use Rattle.lines.proofs.first.Tie as tie
 
 slice-aggregate-result : tie.Need-slice-aggregate-result
 slice-aggregate-result c = simp length-take (omega arith)

@@ -1,10 +1,10 @@
 -- A part that goes to the end.
 -- Assumes nothing.
 use denote.Ref.{now}
-use Rattle.text.proofs.Laws.{part-after, none-after}
+use Rattle.lines.proofs.Laws.{part-after, none-after}
 use borrow.Author.Needs.{needs}
-use Rattle.text.proofs.after.Statement.{statement}
-use Rattle.text.proofs.after.Tie as tie
+use Rattle.lines.proofs.after.Statement.{statement}
+use Rattle.lines.proofs.after.Tie as tie
 
 sub-result : tie.Need-sub-result
 sub-result c = search needs
