@@ -1,15 +1,26 @@
 -- By the verb.
 -- Assumes nothing.
-use mathlib.Core.Path.{ap, sym, _∙_}
+use mathlib.Core.Path.{_≡_, ap, sym, _∙_}
 use mathlib.Core.List.{List}
 use Prim.Native.Nat.{ℕ}
 use denote.Ref.{now}
-use Rattle.rules.specs.Session.{state}
+use Rattle.rules.specs.Session.{State, state}
+use Rattle.verbs.specs.declared.Verb.{Verb}
+use Rattle.verbs.specs.Verbs.{verbOf}
 use Rattle.packed.specs.declared.Taken.{Taken}
 use Rattle.probelines.specs.ProbeLines.{commanded, finished, sessionAt, taken, byVerb, answered}
 use borrow.Author.Needs.{needs}
 use Rattle.probelines.proofs.answer.Statement.{statement}
 use Rattle.probelines.proofs.answer.Tie as tie
+
+abbrev card : tie.Start → State
+card i = state (now (i .args .store)) (now (i .args .work)) (i .args .session)
+
+-- what the line comes to, once its verb is known
+by : (i : tie.Start) {r v : Verb} → r ≡ verbOf (now (i .args .line)) → r ≡ v
+    → byVerb (card i) (now (i .args .resp)) (now (i .args .line)) (now (i .args .out)) v ≡ answered (card i) (now (i .args .resp)) (now (i .args .line)) (now (i .args .out))
+unfolding answered
+by i e g = ap (byVerb (card i) (now (i .args .resp)) (now (i .args .line)) (now (i .args .out))) (sym g ∙ e)
 
 verb-of-requires : tie.Need-verb-of-requires
 verb-of-requires c κs = search needs
@@ -78,10 +89,11 @@ same-length : tie.Need-same-length
 same-length c = search needs
 
 returns : tie.Need-returns
-unfolding answered byVerb
+unfolding byVerb
 returns c =
-    c .before .before .bad .ensures (now (c .before .before .before .before .before .before .before .before .before .before .before .before .args .store)) (now (c .before .before .before .before .before .before .before .before .before .before .before .before .args .work)) (now (c .before .before .before .before .before .before .before .before .before .before .before .before .args .resp))
-    ∙ sym (ap (byVerb (state (now (c .before .before .before .before .before .before .before .before .before .before .before .before .args .store)) (now (c .before .before .before .before .before .before .before .before .before .before .before .before .args .work)) (c .before .before .before .before .before .before .before .before .before .before .before .before .args .session)) (now (c .before .before .before .before .before .before .before .before .before .before .before .before .args .resp)) (now (c .before .before .before .before .before .before .before .before .before .before .before .before .args .line)) (now (c .before .before .before .before .before .before .before .before .before .before .before .before .args .out))) (sym (c .before .before .before .before .before .before .verb-of .ensures) ∙ c .before .before .before .before .enum-told .given .1))
+    let v = c .before .before .before .before in
+    let i = v .before .before .before .before .before .before .before .before in
+    c .before .before .bad .ensures (now (i .args .store)) (now (i .args .work)) (now (i .args .resp)) ∙ by i (v .before .before .verb-of .ensures) (v .enum-told .given .1)
 
 same-length-2 : tie.Need-same-length-2
 same-length-2 c = search needs
@@ -96,20 +108,24 @@ same-length-5 : tie.Need-same-length-5
 same-length-5 c = search needs
 
 returns-2 : tie.Need-returns-2
-unfolding answered byVerb
+unfolding byVerb
 returns-2 c =
-    c .before .before .before .before .before .before .before .before .put .ensures
-    ∙ sym (ap (byVerb (state (now (c .before .before .before .before .before .before .before .before .before .before .before .before .before .before .before .before .before .before .before .before .before .before .args .store)) (now (c .before .before .before .before .before .before .before .before .before .before .before .before .before .before .before .before .before .before .before .before .before .before .args .work)) (c .before .before .before .before .before .before .before .before .before .before .before .before .before .before .before .before .before .before .before .before .before .before .args .session)) (now (c .before .before .before .before .before .before .before .before .before .before .before .before .before .before .before .before .before .before .before .before .before .before .args .resp)) (now (c .before .before .before .before .before .before .before .before .before .before .before .before .before .before .before .before .before .before .before .before .before .before .args .line)) (now (c .before .before .before .before .before .before .before .before .before .before .before .before .before .before .before .before .before .before .before .before .before .before .args .out))) (sym (c .before .before .before .before .before .before .before .before .before .before .before .before .before .before .before .before .verb-of .ensures) ∙ c .before .before .before .before .before .before .before .before .before .before .before .before .before .before .b .given .1))
+    let v = c .before .before .before .before .before .before .before .before .before .before .before .before .before .before in
+    let i = v .before .before .before .before .before .before .before .before in
+    c .before .before .before .before .before .before .before .before .put .ensures ∙ by i (v .before .before .verb-of .ensures) (v .b .given .1)
 
 same-length-6 : tie.Need-same-length-6
 same-length-6 c = search needs
 
 returns-3 : tie.Need-returns-3
-unfolding answered byVerb
+unfolding byVerb
 returns-3 c =
-    c .before .before .take .ensures (now (c .before .before .before .before .before .before .before .before .before .before .before .before .before .before .args .store)) (now (c .before .before .before .before .before .before .before .before .before .before .before .before .before .before .args .work)) (now (c .before .before .before .before .before .before .before .before .before .before .before .before .before .before .args .resp))
-    ∙ ap (λ (t : Taken). taken (state (now (c .before .before .before .before .before .before .before .before .before .before .before .before .before .before .args .store)) (now (c .before .before .before .before .before .before .before .before .before .before .before .before .before .before .args .work)) (c .before .before .before .before .before .before .before .before .before .before .before .before .before .before .args .session)) (now (c .before .before .before .before .before .before .before .before .before .before .before .before .before .before .args .resp)) t (now (c .before .before .before .before .before .before .before .before .before .before .before .before .before .before .args .out))) (c .before .before .before .before .session-at .ensures ∙ ap sessionAt (c .before .before .before .before .before .after .ensures))
-    ∙ sym (ap (byVerb (state (now (c .before .before .before .before .before .before .before .before .before .before .before .before .before .before .args .store)) (now (c .before .before .before .before .before .before .before .before .before .before .before .before .before .before .args .work)) (c .before .before .before .before .before .before .before .before .before .before .before .before .before .before .args .session)) (now (c .before .before .before .before .before .before .before .before .before .before .before .before .before .before .args .resp)) (now (c .before .before .before .before .before .before .before .before .before .before .before .before .before .before .args .line)) (now (c .before .before .before .before .before .before .before .before .before .before .before .before .before .before .args .out))) (sym (c .before .before .before .before .before .before .before .before .verb-of .ensures) ∙ c .before .before .before .before .before .before .enum-told2 .given .1))
+    let k = c .before .before .before .before in
+    let v = k .before .before in
+    let i = v .before .before .before .before .before .before .before .before in
+    c .before .before .take .ensures (now (i .args .store)) (now (i .args .work)) (now (i .args .resp))
+    ∙ ap (λ (t : Taken). taken (card i) (now (i .args .resp)) t (now (i .args .out))) (k .session-at .ensures ∙ ap sessionAt (k .before .after .ensures))
+    ∙ by i (v .before .before .verb-of .ensures) (v .enum-told2 .given .1)
 
 same-length-7 : tie.Need-same-length-7
 same-length-7 c = search needs
@@ -124,10 +140,11 @@ same-length-10 : tie.Need-same-length-10
 same-length-10 c = search needs
 
 returns-4 : tie.Need-returns-4
-unfolding answered byVerb
+unfolding byVerb
 returns-4 c =
-    c .before .before .before .before .power-on .ensures (c .before .before .before .before .before .before .before .before .before .before .before .before .before .before .before .before .before .before .args .session)
-    ∙ sym (ap (byVerb (state (now (c .before .before .before .before .before .before .before .before .before .before .before .before .before .before .before .before .before .before .args .store)) (now (c .before .before .before .before .before .before .before .before .before .before .before .before .before .before .before .before .before .before .args .work)) (c .before .before .before .before .before .before .before .before .before .before .before .before .before .before .before .before .before .before .args .session)) (now (c .before .before .before .before .before .before .before .before .before .before .before .before .before .before .before .before .before .before .args .resp)) (now (c .before .before .before .before .before .before .before .before .before .before .before .before .before .before .before .before .before .before .args .line)) (now (c .before .before .before .before .before .before .before .before .before .before .before .before .before .before .before .before .before .before .args .out))) (sym (c .before .before .before .before .before .before .before .before .before .before .before .before .verb-of .ensures) ∙ c .before .before .before .before .before .before .before .before .before .before .contactless .given .1))
+    let v = c .before .before .before .before .before .before .before .before .before .before in
+    let i = v .before .before .before .before .before .before .before .before in
+    c .before .before .before .before .power-on .ensures (i .args .session) ∙ by i (v .before .before .verb-of .ensures) (v .contactless .given .1)
 
 same-length-11 : tie.Need-same-length-11
 same-length-11 c = search needs
@@ -142,10 +159,13 @@ same-length-14 : tie.Need-same-length-14
 same-length-14 c = search needs
 
 returns-5 : tie.Need-returns-5
-unfolding answered byVerb
+unfolding byVerb
 returns-5 c =
-    c .before .before .before .before .before .before .before .before .command .ensures ∙ ap (λ (d : List ℕ). commanded (state (now (c .before .before .before .before .before .before .before .before .before .before .before .before .before .before .before .before .before .before .before .before .before .before .args .store)) (now (c .before .before .before .before .before .before .before .before .before .before .before .before .before .before .before .before .before .before .before .before .before .before .args .work)) (c .before .before .before .before .before .before .before .before .before .before .before .before .before .before .before .before .before .before .before .before .before .before .args .session)) (now (c .before .before .before .before .before .before .before .before .before .before .before .before .before .before .before .before .before .before .before .before .before .before .args .resp)) d (now (c .before .before .before .before .before .before .before .before .before .before .before .before .before .before .before .before .before .before .before .before .before .before .args .out))) (c .before .before .before .before .before .before .before .before .before .before .after2 .ensures)
-    ∙ sym (ap (byVerb (state (now (c .before .before .before .before .before .before .before .before .before .before .before .before .before .before .before .before .before .before .before .before .before .before .args .store)) (now (c .before .before .before .before .before .before .before .before .before .before .before .before .before .before .before .before .before .before .before .before .before .before .args .work)) (c .before .before .before .before .before .before .before .before .before .before .before .before .before .before .before .before .before .before .before .before .before .before .args .session)) (now (c .before .before .before .before .before .before .before .before .before .before .before .before .before .before .before .before .before .before .before .before .before .before .args .resp)) (now (c .before .before .before .before .before .before .before .before .before .before .before .before .before .before .before .before .before .before .before .before .before .before .args .line)) (now (c .before .before .before .before .before .before .before .before .before .before .before .before .before .before .before .before .before .before .before .before .before .before .args .out))) (sym (c .before .before .before .before .before .before .before .before .before .before .before .before .before .before .before .before .verb-of .ensures) ∙ c .before .before .before .before .before .before .before .before .before .before .before .before .before .before .enum-told3 .given .1))
+    let k = c .before .before .before .before .before .before .before .before in
+    let v = k .before .before .before .before .before .before in
+    let i = v .before .before .before .before .before .before .before .before in
+    k .command .ensures ∙ ap (λ (d : List ℕ). commanded (card i) (now (i .args .resp)) d (now (i .args .out))) (k .before .before .after2 .ensures)
+    ∙ by i (v .before .before .verb-of .ensures) (v .enum-told3 .given .1)
 
 same-length-15 : tie.Need-same-length-15
 same-length-15 c = search needs
@@ -160,10 +180,13 @@ same-length-18 : tie.Need-same-length-18
 same-length-18 c = search needs
 
 returns-6 : tie.Need-returns-6
-unfolding answered byVerb
+unfolding byVerb
 returns-6 c =
-    c .before .before .before .before .before .before .done .ensures ∙ ap (λ (d : List ℕ). finished (state (now (c .before .before .before .before .before .before .before .before .before .before .before .before .before .before .before .before .before .before .before .before .args .store)) (now (c .before .before .before .before .before .before .before .before .before .before .before .before .before .before .before .before .before .before .before .before .args .work)) (c .before .before .before .before .before .before .before .before .before .before .before .before .before .before .before .before .before .before .before .before .args .session)) (now (c .before .before .before .before .before .before .before .before .before .before .before .before .before .before .before .before .before .before .before .before .args .resp)) d (now (c .before .before .before .before .before .before .before .before .before .before .before .before .before .before .before .before .before .before .before .before .args .out))) (c .before .before .before .before .before .before .before .before .after3 .ensures)
-    ∙ sym (ap (byVerb (state (now (c .before .before .before .before .before .before .before .before .before .before .before .before .before .before .before .before .before .before .before .before .args .store)) (now (c .before .before .before .before .before .before .before .before .before .before .before .before .before .before .before .before .before .before .before .before .args .work)) (c .before .before .before .before .before .before .before .before .before .before .before .before .before .before .before .before .before .before .before .before .args .session)) (now (c .before .before .before .before .before .before .before .before .before .before .before .before .before .before .before .before .before .before .before .before .args .resp)) (now (c .before .before .before .before .before .before .before .before .before .before .before .before .before .before .before .before .before .before .before .before .args .line)) (now (c .before .before .before .before .before .before .before .before .before .before .before .before .before .before .before .before .before .before .before .before .args .out))) (sym (c .before .before .before .before .before .before .before .before .before .before .before .before .before .before .verb-of .ensures) ∙ c .before .before .before .before .before .before .before .before .before .before .before .before .enum-told4 .given .1))
+    let k = c .before .before .before .before .before .before in
+    let v = k .before .before .before .before .before .before in
+    let i = v .before .before .before .before .before .before .before .before in
+    k .done .ensures ∙ ap (λ (d : List ℕ). finished (card i) (now (i .args .resp)) d (now (i .args .out))) (k .before .before .after3 .ensures)
+    ∙ by i (v .before .before .verb-of .ensures) (v .enum-told4 .given .1)
 
 same-length-19 : tie.Need-same-length-19
 same-length-19 c = search needs
@@ -178,19 +201,21 @@ same-length-22 : tie.Need-same-length-22
 same-length-22 c = search needs
 
 returns-7 : tie.Need-returns-7
-unfolding answered byVerb
+unfolding byVerb
 returns-7 c =
-    c .before .before .before .before .before .before .fail .ensures
-    ∙ sym (ap (byVerb (state (now (c .before .before .before .before .before .before .before .before .before .before .before .before .before .before .before .before .before .before .before .args .store)) (now (c .before .before .before .before .before .before .before .before .before .before .before .before .before .before .before .before .before .before .before .args .work)) (c .before .before .before .before .before .before .before .before .before .before .before .before .before .before .before .before .before .before .before .args .session)) (now (c .before .before .before .before .before .before .before .before .before .before .before .before .before .before .before .before .before .before .before .args .resp)) (now (c .before .before .before .before .before .before .before .before .before .before .before .before .before .before .before .before .before .before .before .args .line)) (now (c .before .before .before .before .before .before .before .before .before .before .before .before .before .before .before .before .before .before .before .args .out))) (sym (c .before .before .before .before .before .before .before .before .before .before .before .before .before .verb-of .ensures) ∙ c .before .before .before .before .before .before .before .before .before .before .before .enum-told5 .given .1))
+    let v = c .before .before .before .before .before .before .before .before .before .before .before in
+    let i = v .before .before .before .before .before .before .before .before in
+    c .before .before .before .before .before .before .fail .ensures ∙ by i (v .before .before .verb-of .ensures) (v .enum-told5 .given .1)
 
 same-length-23 : tie.Need-same-length-23
 same-length-23 c = search needs
 
 returns-8 : tie.Need-returns-8
-unfolding answered byVerb
+unfolding byVerb
 returns-8 c =
-    c .before .before .bad2 .ensures (now (c .before .before .before .before .before .before .before .before .before .before .before .before .args .store)) (now (c .before .before .before .before .before .before .before .before .before .before .before .before .args .work)) (now (c .before .before .before .before .before .before .before .before .before .before .before .before .args .resp))
-    ∙ sym (ap (byVerb (state (now (c .before .before .before .before .before .before .before .before .before .before .before .before .args .store)) (now (c .before .before .before .before .before .before .before .before .before .before .before .before .args .work)) (c .before .before .before .before .before .before .before .before .before .before .before .before .args .session)) (now (c .before .before .before .before .before .before .before .before .before .before .before .before .args .resp)) (now (c .before .before .before .before .before .before .before .before .before .before .before .before .args .line)) (now (c .before .before .before .before .before .before .before .before .before .before .before .before .args .out))) (sym (c .before .before .before .before .before .before .verb-of .ensures) ∙ c .before .before .before .before .enum-told6 .given .1))
+    let v = c .before .before .before .before in
+    let i = v .before .before .before .before .before .before .before .before in
+    c .before .before .bad2 .ensures (now (i .args .store)) (now (i .args .work)) (now (i .args .resp)) ∙ by i (v .before .before .verb-of .ensures) (v .enum-told6 .given .1)
 
 pub answer-spec : {M : Type 1} → statement M
 answer-spec =
