@@ -1,7 +1,8 @@
 -- Codes: what each code of a read condition lets one do.
 --
 --   code-always code-pin code-never    a condition with that code
---   contact-code contactless-code      the two columns, at each slot
+--   contactColumn contactlessColumn    the two columns as the code has them
+--   contact-code contactless-code      they are the book's, at each slot
 --
 -- Assumes nothing.
 use mathlib.Core.Path.{_≡_, refl}
@@ -14,10 +15,10 @@ use lib.ListN.{getD}
 use borrow.Author.Tests.{eqb-true}
 use Rattle.rules.specs.declared.Session.{Session}
 use Rattle.rules.specs.Store.{slots, Access, always, PIN, never, contactRead, contactlessRead}
-use Rattle.rules.specs.Bytes.{allBelow}
+use Rattle.rules.specs.Bytes.{iff}
 use Rattle.rules.specs.Session.{allows}
 use Rattle.rules.proofs.Tests.{at-each}
-use Rattle.table.specs.Codes.{accessCode, columnOf}
+use Rattle.table.specs.Codes.{accessCode}
 
 module _ (s : Session) where
   pub code-always : (a : Access) → accessCode a ≡ 0 → allows s a ≡ true
@@ -35,15 +36,20 @@ module _ (s : Session) where
   code-never PIN p q = absurd (q refl)
   code-never never p q = refl
 
--- a column in codes gives the condition of each slot
-abbrev sameAt : List Access → ℕ → Bool
-sameAt l i = eqb (accessCode (getD l i never)) (getD (columnOf l) i 0)
+-- the two columns as the code has them: the slots of one code by name, and any other
+abbrev pub contactColumn : ℕ → ℕ
+contactColumn i = iff (eqb i 3) 1 (iff (eqb i 5) 1 (iff (eqb i 9) 1 0))
 
-column-code : (l : List Access) → allBelow (sameAt l) slots ≡ true → (i : ℕ) → i < slots → accessCode (getD l i never) ≡ getD (columnOf l) i 0
-column-code l e i h = eqb-true _ _ (at-each (sameAt l) slots e i h)
+abbrev pub contactlessColumn : ℕ → ℕ
+contactlessColumn i = iff (eqb i 1) 0 (iff (eqb i 6) 0 (iff (eqb i 11) 0 2))
 
-pub contact-code : (i : ℕ) → i < slots → accessCode (getD contactRead i never) ≡ getD (columnOf contactRead) i 0
-contact-code = column-code contactRead refl
+abbrev sameAt : List Access → (ℕ → ℕ) → ℕ → Bool
+sameAt l f i = eqb (accessCode (getD l i never)) (f i)
 
-pub contactless-code : (i : ℕ) → i < slots → accessCode (getD contactlessRead i never) ≡ getD (columnOf contactlessRead) i 0
-contactless-code = column-code contactlessRead refl
+pub contact-code : (i : ℕ) → i < slots → accessCode (getD contactRead i never) ≡ contactColumn i
+unfolding iff
+contact-code i h = eqb-true _ _ (at-each (sameAt contactRead contactColumn) slots refl i h)
+
+pub contactless-code : (i : ℕ) → i < slots → accessCode (getD contactlessRead i never) ≡ contactlessColumn i
+unfolding iff
+contactless-code i h = eqb-true _ _ (at-each (sameAt contactlessRead contactlessColumn) slots refl i h)

@@ -3,53 +3,52 @@ use rules::Session;
 ghost use mathlib.Core.Path.{_≡_};
 ghost use mathlib.Core.List.{List};
 ghost use Prim.Native.Nat.{ℕ, _<_};
+ghost use lib.ListN.{getD};
 ghost use Rattle.rules.specs.declared.Session.{Session};
-ghost use Rattle.rules.specs.Store.{Access, capacity, offset, slotNamed, takes};
+ghost use Rattle.rules.specs.Store.{Access, never, contactRead, contactlessRead, capacity, offset, slotNamed, takes};
 ghost use Rattle.rules.specs.Session.{allows, readable};
 ghost use Rattle.table.specs.Codes.{accessCode};
 
-const CAPACITIES: [usize; 12] = [
-    512,
-    4096,
-    2048,
-    4096,
-    2048,
-    13312,
-    2048,
-    2048,
-    2048,
-    512,
-    512,
-    64,
-];
-
-const OFFSETS: [usize; 12] = [
-    32,
-    546,
-    4644,
-    6694,
-    10792,
-    12842,
-    26156,
-    28206,
-    30256,
-    32306,
-    32820,
-    33334,
-];
+// ---- columns, each a `match`: a constant array would be built anew at every look-up
 
 pub fn capacity(slot: usize) -> usize
     requires { ⌜ slot < 12 ⌝ }
     ensures { λ r. ⌜ r ≡ capacity slot ⌝ }
 {
-    CAPACITIES[slot]
+    match slot {
+        0 => 512,
+        1 => 4096,
+        2 => 2048,
+        3 => 4096,
+        4 => 2048,
+        5 => 13312,
+        6 => 2048,
+        7 => 2048,
+        8 => 2048,
+        9 => 512,
+        10 => 512,
+        _ => 64,
+    }
 }
 
 pub fn offset(slot: usize) -> usize
     requires { ⌜ slot < 12 ⌝ }
     ensures { λ r. ⌜ r ≡ offset slot ⌝ }
 {
-    OFFSETS[slot]
+    match slot {
+        0 => 32,
+        1 => 546,
+        2 => 4644,
+        3 => 6694,
+        4 => 10792,
+        5 => 12842,
+        6 => 26156,
+        7 => 28206,
+        8 => 30256,
+        9 => 32306,
+        10 => 32820,
+        _ => 33334,
+    }
 }
 
 // The slot can take an object of n bytes.
@@ -83,9 +82,29 @@ pub fn slot_named(tag: u32) -> usize
 // ---- what may be read now (01, the last two columns of the table)
 
 // 0 always, 1 with the PIN, 2 never
-const CONTACT_READ: [u8; 12] = [0, 0, 0, 1, 0, 1, 0, 0, 0, 1, 0, 0];
+fn contact_code(slot: usize) -> u8
+    requires { ⌜ slot < 12 ⌝ }
+    ensures { λ r. ⌜ r ≡ accessCode (getD contactRead slot never) ⌝ }
+{
+    match slot {
+        3 => 1,
+        5 => 1,
+        9 => 1,
+        _ => 0,
+    }
+}
 
-const CONTACTLESS_READ: [u8; 12] = [2, 0, 2, 2, 2, 2, 0, 2, 2, 2, 2, 0];
+fn contactless_code(slot: usize) -> u8
+    requires { ⌜ slot < 12 ⌝ }
+    ensures { λ r. ⌜ r ≡ accessCode (getD contactlessRead slot never) ⌝ }
+{
+    match slot {
+        1 => 0,
+        6 => 0,
+        11 => 0,
+        _ => 2,
+    }
+}
 
 fn allowed(code: u8, given: bool) -> bool
     ensures { λ r. ⌜ ((a : Access) (s : Session) → accessCode a ≡ code → s .pin ≡ given → r ≡ allows s a) ⌝ }
@@ -105,7 +124,7 @@ pub fn readable(s: Session, slot: usize) -> bool
 {
     let given = s.pin;
     if s.contactless {
-        return allowed(CONTACTLESS_READ[slot], given);
+        return allowed(contactless_code(slot), given);
     }
-    allowed(CONTACT_READ[slot], given)
+    allowed(contact_code(slot), given)
 }

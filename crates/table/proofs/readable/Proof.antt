@@ -1,17 +1,16 @@
 -- The column of the interface, at the slot.
 -- Assumes nothing.
-use mathlib.Core.Path.{refl, _∙_}
+use mathlib.Core.Path.{refl, sym, _∙_}
 use borrow.Author.Needs.{needs}
 use Rattle.rules.specs.Session.{readable}
 use Rattle.rules.specs.Store.{never, contactRead, contactlessRead}
 use Rattle.rules.proofs.Tests.{on, off}
 use lib.ListN.{getD}
-use Rattle.table.proofs.Codes.{contact-code, contactless-code}
 use Rattle.table.proofs.readable.Statement.{statement}
 use Rattle.table.proofs.readable.Tie as tie
 
-array-read-allowed : tie.Need-array-read-allowed
-array-read-allowed c = search needs
+contactless-code-requires : tie.Need-contactless-code-requires
+contactless-code-requires c κs = search needs
 
 allowed-requires : tie.Need-allowed-requires
 allowed-requires c κs = search needs
@@ -19,12 +18,12 @@ allowed-requires c κs = search needs
 returns : tie.Need-returns
 unfolding readable
 returns c =
-    let i = c .before .before in
+    let i = c .before .before .before in
     let a = getD contactlessRead (i .args .slot) never in
-    rw (on _ a (getD contactRead (i .args .slot) never) (c .before .if1 .taken)) (c .allowed .ensures a (i .args .s) (contactless-code (i .args .slot) (i .pre)) refl)
+    rw (on _ a (getD contactRead (i .args .slot) never) (c .before .before .if1 .taken)) (c .allowed .ensures a (i .args .s) (sym (c .before .contactless-code .ensures)) refl)
 
-array-read-allowed-2 : tie.Need-array-read-allowed-2
-array-read-allowed-2 c = search needs
+contact-code-requires : tie.Need-contact-code-requires
+contact-code-requires c κs = search needs
 
 allowed-requires-2 : tie.Need-allowed-requires-2
 allowed-requires-2 c κs = search needs
@@ -32,17 +31,17 @@ allowed-requires-2 c κs = search needs
 returns-2 : tie.Need-returns-2
 unfolding readable
 returns-2 c =
-    let i = c .before .before in
+    let i = c .before .before .before in
     let a = getD contactRead (i .args .slot) never in
-    rw (off _ (getD contactlessRead (i .args .slot) never) a (c .before .if1 .left)) (c .allowed2 .ensures a (i .args .s) (contact-code (i .args .slot) (i .pre)) refl)
+    rw (off _ (getD contactlessRead (i .args .slot) never) a (c .before .before .if1 .left)) (c .allowed2 .ensures a (i .args .s) (sym (c .before .contact-code .ensures)) refl)
 
 pub readable-spec : {M : Type 1} → statement M
 readable-spec =
     tie.close
     (tie.spec
-    array-read-allowed
+    contactless-code-requires
     allowed-requires
     returns
-    array-read-allowed-2
+    contact-code-requires
     allowed-requires-2
     returns-2)
