@@ -3,112 +3,94 @@
 // kind (0 a command, 1 the result of a job), its length in two bytes, and its bytes. Numbers have the highest byte first.
 use libc::STDIN_FILENO;
 use libc::STDOUT_FILENO;
-use rules::Reply;
 use rules::Session;
 ghost use mathlib.Core.Path.{_≡_};
-ghost use Prim.Native.Nat.{_≤_};
+ghost use Prim.Native.Nat.{_≤_, _<_};
 ghost use lib.ListN.{length};
 
-// Between two calls: the session, and the sum of the answers so far.
-struct Played {
-    session: Session,
-    sum: u64,
-}
-
 // The first two bytes of the response buffer count, in which a short answer has its status word.
-fn added(r: Reply, resp: &[u8], sum: u64) -> Played
-    requires { ⌜ 2 ≤ length (now resp) ⌝ }
+fn added(resp: &[u8], sum: u64) -> u64
+    requires { ⌜ (2 ≤ length (now resp)) × (sum < 4294967291) ⌝ }
+    ensures { λ r. ⌜ r < 4294967291 ⌝ }
 {
-    let session = r.session;
     let word = numbers::be16(resp, 0);
-    let next = (sum % 4294967291 * 257 + (word % 65536) as u64) % 4294967291;
-    Played { session, sum: next }
+    (sum * 257 + (word % 65536) as u64) % 4294967291
 }
 
 fn make(
-    p: Played,
+    s: Session,
     store: &mut [u8],
     work: &mut [u8],
     resp: &mut [u8],
     kind: u8,
     bytes: &[u8],
-) -> Played
-    requires { ⌜ 2 ≤ length (now resp) ⌝ }
-{
-    let s = p.session;
+) -> Session {
     if kind == 0 {
         let r = card::command(s, store, work, resp, bytes);
-        return added(r, resp, p.sum);
+        return r.session;
     }
     let r = card::job_result(s, store, work, resp, false, bytes);
-    added(r, resp, p.sum)
+    r.session
 }
 
-fn play(p: Played, store: &mut [u8], work: &mut [u8], resp: &mut [u8], script: &[u8]) -> Played
-    requires { ⌜ 2 ≤ length (now resp) ⌝ }
-{
-    let mut now = p;
-    let mut at = 0;
-    while at < script.len() {
-        if script.len() - at < 3 {
-            return now;
-        }
-        let n = numbers::be16(script, at + 1);
-        let from = at + 3;
-        if script.len() - from < n {
-            return now;
-        }
-        let end = from + n;
-        now = make(now, store, work, resp, script[at], &script[from..end]);
-        at = end;
-    }
-    now
-}
-
-fn rounds(
-    p: Played,
+// The first bytes once, and then the others n times: in one loop over the calls, between which no session is handed over.
+fn play(
+    session: Session,
     store: &mut [u8],
     work: &mut [u8],
     resp: &mut [u8],
     script: &[u8],
+    once: usize,
     n: u32,
 ) -> u64
-    requires { ⌜ 2 ≤ length (now resp) ⌝ }
+    requires { ⌜ (2 ≤ length (now resp)) × (once ≤ length (now script)) × (n < 16777216) ⌝ }
 {
-    let mut now = p;
+    let mut s = session;
+    let mut sum = 0;
+    let mut at = 0;
+    let mut end = once;
     let mut i = 0;
-    while i < n {
-        now = play(now, store, work, resp, script);
+    while i <= n {
+        while at < end {
+            if end - at < 3 {
+                return sum;
+            }
+            let k = numbers::be16(script, at + 1);
+            let from = at + 3;
+            if end - from < k {
+                return sum;
+            }
+            let next = from + k;
+            s = make(s, store, work, resp, script[at], &script[from..next]);
+            sum = added(resp, sum);
+            at = next;
+        }
+        at = once;
+        end = script.len();
         i += 1;
     }
-    now.sum
+    sum
 }
 
-// The part that is played once, and then the rounds.
+fn least(a: usize, b: usize) -> usize
+    ensures { λ r. ⌜ r ≤ b ⌝ }
+{
+    if a < b {
+        return a;
+    }
+    b
+}
+
 fn run(session: Session, store: &mut [u8], work: &mut [u8], resp: &mut [u8], script: &[u8]) -> u64
     requires { ⌜ 2 ≤ length (now resp) ⌝ }
 {
     if script.len() < 6 {
         return 0;
     }
-    let n = numbers::be24(script, 1);
-    let once = numbers::be16(script, 4);
-    let start = Played { session, sum: 0 };
-    let first = play(
-        start,
-        store,
-        work,
-        resp,
-        lines::first(lines::after(script, 6), once),
-    );
-    rounds(
-        first,
-        store,
-        work,
-        resp,
-        lines::after(lines::after(script, 6), once),
-        n,
-    )
+    let n = numbers::be24(script, 1) % 16777216;
+    let calls = &script[6..];
+    let once = least(numbers::be16(script, 4), calls.len());
+    play(session, store, work, resp, calls, once, n)
 }
 
 // 01's fixed card, with an RSA key 9A and 9E and a P-256 key 9C and 9D.
