@@ -83,7 +83,8 @@ pub fn select(s: Session, work: &mut [u8], resp: &mut [u8], h: Header, field: &[
     }
     let le = h.le;
     let template = TEMPLATE;
-    sending::send(s, work, resp, le, &template, &field[..0])
+    let sent = sending::send(work, resp, le, &template, &field[..0]);
+    sending::told(s, sent)
 }
 
 // ---- GET RESPONSE

@@ -4,9 +4,10 @@ use rules::Header;
 use rules::Reply;
 use rules::Session;
 ghost use mathlib.Core.Path.{_≡_};
-ghost use mathlib.Core.Bool.{true};
+ghost use mathlib.Core.Bool.{true, _||_};
 ghost use mathlib.Core.List.{List};
 ghost use Prim.Native.Nat.{ℕ, _≤_};
+ghost use lib.Dec.{eqb};
 ghost use lib.ListN.{length};
 ghost use Rattle.rules.specs.Store.{wellFormed};
 ghost use Rattle.rules.specs.Session.{state, heldLength, restOk};
@@ -41,6 +42,19 @@ fn get_data(
 
 // ---- which rule answers
 
+// VERIFY, CHANGE REFERENCE DATA and RESET RETRY COUNTER are called from one place: a function with one caller becomes a part of it, and no session is handed over.
+fn on_reference(ins: u8) -> bool
+    ensures { λ r. ⌜ r ≡ (eqb ins 0x20 || (eqb ins 0x24 || eqb ins 0x2C)) ⌝ }
+{
+    if ins == 0x20 {
+        return true;
+    }
+    if ins == 0x24 {
+        return true;
+    }
+    ins == 0x2C
+}
+
 pub fn rule(
     ch: Challenge,
     s: Session,
@@ -63,13 +77,7 @@ pub fn rule(
     if ins == 0xC0 {
         return answers::get_response(s, work, resp, h, field);
     }
-    if ins == 0x20 {
-        return pin::command(s, store, work, resp, h, field);
-    }
-    if ins == 0x24 {
-        return pin::command(s, store, work, resp, h, field);
-    }
-    if ins == 0x2C {
+    if on_reference(ins) {
         return pin::command(s, store, work, resp, h, field);
     }
     if ins == 0x87 {

@@ -4,6 +4,7 @@ use rules::Challenge;
 use rules::Job;
 use rules::Reply;
 use rules::Session;
+use sending::Sent;
 ghost use mathlib.Core.Path.{_≡_};
 ghost use mathlib.Core.Bool.{true, false};
 ghost use mathlib.Core.List.{List, _++_};
@@ -14,6 +15,7 @@ ghost use Rattle.rules.specs.Session.{state, running, jobOk};
 ghost use Rattle.rules.specs.Held.{send};
 ghost use Rattle.rules.specs.Keys.{resultFits, challenged, finished};
 ghost use Rattle.rules.specs.Calls.{outcome, delivered};
+ghost use Rattle.sending.specs.Replies.{sentReply};
 
 // ---- a template that goes out
 
@@ -27,13 +29,14 @@ fn heads(dst: &mut [u8], tag: u8, n: usize) -> usize
     heads::write_head(dst, at, tag, n)
 }
 
-fn give(s: Session, work: &mut [u8], resp: &mut [u8], le: usize, tag: u8, v: &[u8]) -> Reply
+// It is not given the session, and promises for every session.
+fn give(work: &mut [u8], resp: &mut [u8], le: usize, tag: u8, v: &[u8]) -> Sent
     requires { ⌜ (le ≤ 256) × (258 ≤ length (now resp)) × (length (now v) ≤ 256) × (length (now work) ≡ 13321) ⌝ }
-    ensures { λ r. ⌜ ((m : List ℕ) → outcome r m (now (work .exit)) (now (resp .exit)) ≡ (delivered (now (resp .entry)) (send (state m (now (work .entry)) s) le (tlv 0x7C (tlv tag (now (v .entry)))))) .outcome) ⌝ }
+    ensures { λ r. ⌜ ((s : Session) (m : List ℕ) → outcome (sentReply s r) m (now (work .exit)) (now (resp .exit)) ≡ (delivered (now (resp .entry)) (send (state m (now (work .entry)) s) le (tlv 0x7C (tlv tag (now (v .entry)))))) .outcome) ⌝ }
 {
     let mut head = [0u8; 8];
     let n = heads(&mut head, tag, v.len());
-    sending::send(s, work, resp, le, &head[..n], v)
+    sending::send(work, resp, le, &head[..n], v)
 }
 
 // ---- results
@@ -45,7 +48,8 @@ fn challenged(s: Session, work: &mut [u8], resp: &mut [u8], le: usize, result: &
 {
     let reply = numbers::be64(result, 8);
     let t = session::with_challenge(s, Challenge::Awaits { reply });
-    give(t, work, resp, le, 0x81, octets::part(result, 0, 8))
+    let sent = give(work, resp, le, 0x81, octets::part(result, 0, 8));
+    sending::told(t, sent)
 }
 
 // The caller has seen to it that a job is open; the job is closed, whatever its result.
@@ -64,5 +68,6 @@ pub fn finish(s: Session, work: &mut [u8], resp: &mut [u8], failed: bool, result
     if key == 0x9B {
         return challenged(t, work, resp, le, result);
     }
-    give(t, work, resp, le, 0x82, result)
+    let sent = give(work, resp, le, 0x82, result);
+    sending::told(t, sent)
 }

@@ -30,9 +30,9 @@ fn last_of_chain(
 {
     let total = n + field.len();
     octets::put(work, n, field);
-    let r = template::whole(ch, s, resp, h, octets::part(work, 0, total));
+    let done = template::whole(ch, resp, h, octets::part(work, 0, total));
     octets::zero(work, 0, total);
-    r
+    template::told(s, done)
 }
 
 // A command in one piece is never held.
@@ -56,7 +56,8 @@ fn last(
         len,
     } = chain
     else {
-        return template::whole(ch, t, resp, h, field);
+        let done = template::whole(ch, resp, h, field);
+        return template::told(t, done);
     };
     last_of_chain(ch, t, work, resp, h, len, field)
 }

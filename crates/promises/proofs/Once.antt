@@ -7,30 +7,31 @@
 -- `permit` promises for every store that is well formed, or is not, and `storing::put_whole` promises a word by its two bytes: both still leave one.
 -- Assumes nothing.
 use mathlib.Core.Path.{_≡_, refl, sym, ap}
-use mathlib.Core.Bool.{Bool, true, false}
+use mathlib.Core.Bool.{Bool, true, false, true≢false, false≢true}
 use mathlib.Core.List.{List, []}
 use Prim.Native.Nat.{ℕ, _<_, _/_, _%_}
 use native.Mathlib.Omega.{arith}
 use lib.ListN.{getD}
 use denote.Ref.{RefT, now}
 use Rattle.rules.specs.declared.Admin.{Admin}
+use Rattle.rules.specs.declared.Answer.the-variants.{Response, JobOpened}
 use Rattle.rules.specs.declared.Checked.{Checked}
 use Rattle.rules.specs.declared.Found.{Found}
 use Rattle.rules.specs.declared.Judged.{Judged}
 use Rattle.rules.specs.declared.Reply.{Reply}
 use Rattle.rules.specs.declared.Session.{Session}
 use Rattle.rules.specs.declared.Chain.the-variants.{Shut}
-use Rattle.rules.specs.declared.Rest.the-variants.{Gone}
+use Rattle.rules.specs.declared.Rest.the-variants.{Gone, Left}
 use Rattle.rules.specs.declared.Challenge.the-variants.{Unasked}
-use Rattle.rules.specs.declared.Job.the-variants.{Idle}
+use Rattle.rules.specs.declared.Job.the-variants.{Idle, Running}
 use Rattle.rules.specs.declared.Permit.{Permit}
 use Rattle.rules.specs.Bytes.{zeros, splice, word}
 use Rattle.rules.specs.Book.{book}
 use Rattle.rules.specs.Store.{wellFormed}
 use Rattle.rules.specs.Claims.Starred.{fixed}
-use Rattle.rules.specs.Session.{State, state}
+use Rattle.rules.specs.Session.{State, state, withAdmin}
 use Rattle.rules.specs.Pin.{Judgement, judgement}
-use Rattle.rules.specs.Calls.{Outcome, outcome}
+use Rattle.rules.specs.Calls.{Outcome, outcome, reply}
 use Rattle.rules.specs.Claims.NoSecond.{Shows}
 use Rattle.rules.proofs.NoSecond.{no-second}
 use Rattle.rules.proofs.Cards.{fixed-well}
@@ -38,6 +39,12 @@ use Rattle.octets.proofs.Laws.{length-zeros}
 use Rattle.tries.specs.declared.PinTries.{PinTries}
 use Rattle.tries.specs.declared.PukTries.{PukTries}
 use Rattle.attempt.specs.declared.Tried.{Tried}
+use Rattle.sending.specs.declared.Sent.{Sent}
+use Rattle.sending.specs.declared.Sent.the-variants.{All, First}
+use Rattle.sending.specs.Replies.{sentReply}
+use Rattle.template.specs.declared.Auth.{Auth}
+use Rattle.template.specs.declared.Auth.the-variants.{Said, Knows, Opens}
+use Rattle.template.specs.Replies.{authReply}
 use Rattle.octets.proofs.same.Reads as octets-same
 use Rattle.octets.proofs.part.Reads as octets-part
 use Rattle.octets.proofs.put.Reads as octets-put
@@ -106,6 +113,7 @@ use Rattle.held.proofs.hold_piece.Reads as held-hold-piece
 use Rattle.saying.proofs.say.Reads as saying-say
 use Rattle.saying.proofs.drop_say.Reads as saying-drop-say
 use Rattle.sending.proofs.send.Reads as sending-send
+use Rattle.sending.proofs.told.Reads as sending-told
 use Rattle.sending.proofs.fetch.Reads as sending-fetch
 use Rattle.apdu.proofs.check.Reads as apdu-check
 use Rattle.apdu.proofs.field.Reads as apdu-field
@@ -118,6 +126,7 @@ use Rattle.forms.proofs.admin_form.Reads as forms-admin-form
 use Rattle.forms.proofs.key_form.Reads as forms-key-form
 use Rattle.keyuse.proofs.each.Reads as keyuse-each
 use Rattle.template.proofs.whole.Reads as template-whole
+use Rattle.template.proofs.told.Reads as template-told
 use Rattle.keys.proofs.authenticate.Reads as keys-authenticate
 use Rattle.jobs.proofs.finish.Reads as jobs-finish
 use Rattle.commands.proofs.rule.Reads as commands-rule
@@ -407,8 +416,34 @@ once-saying-say κs a r q s t x y = let e = by-outcome (x [] []) (y [] []) in (e
 once-saying-drop-say : (κs : _) (a : _) (r q : Reply) (s t : _) → saying-drop-say.Post κs a r s → saying-drop-say.Post κs a q t → (r ≡ q) × (now (s .1 .0) ≡ now (t .1 .0)) × (now (s .1 .1 .0) ≡ now (t .1 .1 .0))
 once-saying-drop-say κs a r q s t x y = let e = by-outcome (x []) (y []) in (e .0, e .2, e .3)
 
-once-sending-send : (κs : _) (a : _) (r q : Reply) (s t : _) → sending-send.Post κs a r s → sending-send.Post κs a q t → (r ≡ q) × (now (s .1 .0) ≡ now (t .1 .0)) × (now (s .1 .1 .0) ≡ now (t .1 .1 .0))
-once-sending-send κs a r q s t x y = let e = by-outcome (x []) (y []) in (e .0, e .2, e .3)
+-- what went out shows in what the host is told of it
+same-sent : (x y : Sent) → sentReply anySession x ≡ sentReply anySession y → x ≡ y
+unfolding anySession
+same-sent (All n) (All k) e =
+    let q : Response n ≡ Response k = ap (λ (r : Reply). r .answer) e in
+    let z : n ≡ k = cc in
+    ap All z
+same-sent (All n) (First k w f) e =
+    let q : Gone ≡ Left w f = ap (λ (r : Reply). r .session .rest) e in
+    let z : _≡_ {A = ℕ} 0 1 = cc in
+    absurd (omega arith)
+same-sent (First n w f) (All k) e =
+    let q : Left w f ≡ Gone = ap (λ (r : Reply). r .session .rest) e in
+    let z : _≡_ {A = ℕ} 0 1 = cc in
+    absurd (omega arith)
+same-sent (First n w f) (First k v g) e =
+    let p : Response n ≡ Response k = ap (λ (r : Reply). r .answer) e in
+    let q : Left w f ≡ Left v g = ap (λ (r : Reply). r .session .rest) e in
+    let x : n ≡ k = cc in
+    let y : w ≡ v = cc in
+    let z : f ≡ g = cc in
+    λ i. First (x i) (y i) (z i)
+
+once-sending-send : (κs : _) (a : _) (r q : Sent) (s t : _) → sending-send.Post κs a r s → sending-send.Post κs a q t → (r ≡ q) × (now (s .0) ≡ now (t .0)) × (now (s .1 .0) ≡ now (t .1 .0))
+once-sending-send κs a r q s t x y = let e = by-outcome (x anySession []) (y anySession []) in (same-sent r q (e .0), e .2, e .3)
+
+once-sending-told : (κs : _) (a : _) (r q : Reply) (s t : _) → sending-told.Post κs a r s → sending-told.Post κs a q t → r ≡ q
+once-sending-told κs a r q s t = alike r q
 
 once-sending-fetch : (κs : _) (a : _) (r q : Reply) (s t : _) → sending-fetch.Post κs a r s → sending-fetch.Post κs a q t → (r ≡ q) × (now (s .1 .0) ≡ now (t .1 .0)) × (now (s .1 .1 .0) ≡ now (t .1 .1 .0))
 once-sending-fetch κs a r q s t x y = let e = by-outcome (x []) (y []) in (e .0, e .2, e .3)
@@ -469,8 +504,42 @@ once-keyuse-each κs a r q s t x y = alike r q (x []) (y [])
 
 -- ---- template
 
-once-template-whole : (κs : _) (a : _) (r q : Reply) (s t : _) → template-whole.Post κs a r s → template-whole.Post κs a q t → (r ≡ q) × (now (s .1 .1 .0) ≡ now (t .1 .1 .0))
-once-template-whole κs a r q s t x y = let e = by-outcome (x [] []) (y [] []) in (e .0, e .3)
+-- what was done shows in what the host is told of it, in a cleared session and in one with the administrator's status
+knowing : Session
+knowing = withAdmin anySession true
+
+not-said : {key alg n : ℕ} {ss tt : Session} {A : Type 0} → reply (Response 2) ss ≡ reply (JobOpened key alg n) tt → A
+not-said {key} {alg} {n} e =
+    let q : Response 2 ≡ JobOpened key alg n = ap (λ (r : Reply). r .answer) e in
+    let z : _≡_ {A = ℕ} 0 1 = cc in
+    absurd (omega arith)
+
+same-auth : (x y : Auth) → authReply anySession x ≡ authReply anySession y → authReply knowing x ≡ authReply knowing y → x ≡ y
+unfolding anySession knowing
+same-auth Said Said e f = refl
+same-auth Said (Knows true) e f = absurd (false≢true (ap (λ (r : Reply). r .session .admin) e))
+same-auth Said (Knows false) e f = absurd (true≢false (ap (λ (r : Reply). r .session .admin) f))
+same-auth Said (Opens key alg le n) e f = not-said e
+same-auth (Knows true) Said e f = absurd (true≢false (ap (λ (r : Reply). r .session .admin) e))
+same-auth (Knows false) Said e f = absurd (false≢true (ap (λ (r : Reply). r .session .admin) f))
+same-auth (Knows b) (Knows c) e f = ap Knows (ap (λ (r : Reply). r .session .admin) e)
+same-auth (Knows b) (Opens key alg le n) e f = not-said e
+same-auth (Opens key alg le n) Said e f = not-said (sym e)
+same-auth (Opens key alg le n) (Knows b) e f = not-said (sym e)
+same-auth (Opens key alg le n) (Opens key′ alg′ le′ n′) e f =
+    let p : JobOpened key alg n ≡ JobOpened key′ alg′ n′ = ap (λ (r : Reply). r .answer) e in
+    let q : Running key alg le ≡ Running key′ alg′ le′ = ap (λ (r : Reply). r .session .job) e in
+    let x : key ≡ key′ = cc in
+    let y : alg ≡ alg′ = cc in
+    let z : le ≡ le′ = cc in
+    let w : n ≡ n′ = cc in
+    λ i. Opens (x i) (y i) (z i) (w i)
+
+once-template-whole : (κs : _) (a : _) (r q : Auth) (s t : _) → template-whole.Post κs a r s → template-whole.Post κs a q t → (r ≡ q) × (now (s .1 .0) ≡ now (t .1 .0))
+once-template-whole κs a r q s t x y = let e = by-outcome (x anySession [] []) (y anySession [] []) in (same-auth r q (e .0) (by-outcome (x knowing [] []) (y knowing [] []) .0), e .3)
+
+once-template-told : (κs : _) (a : _) (r q : Reply) (s t : _) → template-told.Post κs a r s → template-told.Post κs a q t → r ≡ q
+once-template-told κs a r q s t = alike r q
 
 -- ---- keys
 

@@ -1,6 +1,7 @@
 -- Laws: what is seen of an answer.
 --
 --   same-outcome           an outcome is given by its parts
+--   replies                what is seen, by what the host is told
 --   delivers               a rule that comes to x is seen to do what x is
 --   length-of-part         the length of a stretch that was read
 --
@@ -26,3 +27,6 @@ delivers resp e = sym (ap (λ (z : Made). (delivered resp z) .outcome) e)
 
 pub length-of-part : (v s : List ℕ) (from n : ℕ) → v ≡ part s from n → from + n ≤ length s → length v ≡ n
 length-of-part v s from n e h = ap length e ∙ length-part s from n h
+
+pub replies : (m : List ℕ) {r q : Reply} {w b : List ℕ} → r ≡ q → outcome r m w b ≡ outcome q m w b
+replies m {w = w} {b = b} e = ap (λ (r : Reply). outcome r m w b) e

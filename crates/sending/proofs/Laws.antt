@@ -28,9 +28,11 @@ module _ (s : Session) (m w resp h b : List ℕ) (le : ℕ) where
   sum = length-append h b
 
   pub all-sent : length h + length b ≤ le
-      → outcome (reply (Response (length (h ++ b) + 2)) s) m w (splice resp 0 ((h ++ b) ++ word 0x9000)) ≡ (delivered resp (send (state m w s) le (h ++ b))) .outcome
+      → outcome (reply (Response (length h + length b + 2)) s) m w (splice resp 0 ((h ++ b) ++ word 0x9000)) ≡ (delivered resp (send (state m w s) le (h ++ b))) .outcome
   unfolding send delivered toldBytes toldAnswer
-  all-sent l = delivers resp (on _ _ _ (le-leb (length (h ++ b)) le (omega (arith, sum))))
+  all-sent l =
+      ap (λ (n : ℕ). outcome (reply (Response (n + 2)) s) m w (splice resp 0 ((h ++ b) ++ word 0x9000))) (sym sum)
+      ∙ delivers resp (on _ _ _ (le-leb (length (h ++ b)) le (omega (arith, sum))))
 
   pub part-sent : le < length h + length b
       → outcome (reply (Response (le + 2)) (holding s Shut (Left (length h + length b) le))) m (splice w 0 (h ++ b)) (splice resp 0 (take le (h ++ b) ++ word (leftWord (length h + length b - le))))
@@ -51,5 +53,3 @@ module _ (s : Session) (m w resp : List ℕ) (le whole k : ℕ) where
       ap (λ (n : ℕ). outcome (reply (Response (n + 2)) (holding s Shut (Left whole (k + le)))) m w (splice resp 0 (part w k le ++ word (leftWord (whole - k - le)))))
       (sym (length-part w k le f))
       ∙ delivers resp (off _ _ _ (lt-leb _ _ l))
-
--- ---- the last piece of a chain

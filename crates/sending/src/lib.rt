@@ -1,5 +1,6 @@
 // Data answers as they go out: those that fit Le, and those that do not, of which the whole is held
-// (01, "From bytes to a command", "GET RESPONSE"). A function that is not lent a buffer promises for every buffer.
+// (01, "From bytes to a command", "GET RESPONSE"). A function that is not lent a buffer promises for every buffer,
+// and `send`, which is not given the session, for every session: the bytes go out first, `told` says what the host learns.
 use rules::Answer;
 use rules::Chain;
 use rules::Reply;
@@ -7,14 +8,27 @@ use rules::Rest;
 use rules::Session;
 ghost use mathlib.Core.Path.{_≡_};
 ghost use mathlib.Core.List.{List, _++_};
-ghost use Prim.Native.Nat.{ℕ, _+_, _≤_, _<_};
-ghost use lib.ListN.{length};
-ghost use Rattle.rules.specs.declared.Rest.the-variants.{Left};
+ghost use Prim.Native.Nat.{ℕ, _+_, _-_, _≤_, _<_};
+ghost use lib.ListN.{length, take};
+ghost use Rattle.rules.specs.declared.Session.{Session};
 ghost use Rattle.rules.specs.Bytes.{part, splice, word};
 ghost use Rattle.rules.specs.Session.{state, heldLength};
 ghost use Rattle.rules.specs.Command.{responds, tells};
 ghost use Rattle.rules.specs.Held.{dropped, leftWord, send, fetch};
 ghost use Rattle.rules.specs.Calls.{outcome, delivered};
+ghost use Rattle.sending.specs.Replies.{sentReply};
+
+// What went out: all of an answer, or its first bytes; each with the length of the response.
+pub enum Sent {
+    All {
+        len: usize,
+    },
+    First {
+        len: usize,
+        whole: usize,
+        fetched: usize,
+    },
+}
 
 // 61 and the number of bytes left, 00 if 256 or more.
 fn left_word(n: usize) -> u16
@@ -45,63 +59,59 @@ fn show(resp: &mut [u8], src: &[u8], sw: u16)
 }
 
 // An answer that fits Le: it is never held.
-fn send_all(s: Session, resp: &mut [u8], head: &[u8], body: &[u8]) -> Reply
+fn send_all(resp: &mut [u8], head: &[u8], body: &[u8])
     requires { ⌜ length (now head) + length (now body) + 2 ≤ length (now resp) ⌝ }
-    ensures { λ r. ⌜ (r .answer ≡ Answer.Response (length (now (head .entry) ++ now (body .entry)) + 2)) × (r .session ≡ s) × (now (resp .exit) ≡ splice (now (resp .entry)) 0 ((now (head .entry) ++ now (body .entry)) ++ word 0x9000)) ⌝ }
+    ensures { λ _. ⌜ now (resp .exit) ≡ splice (now (resp .entry)) 0 ((now (head .entry) ++ now (body .entry)) ++ word 0x9000) ⌝ }
 {
-    let n = head.len() + body.len();
     join(resp, head, body);
-    octets::put_word(resp, n, 0x9000);
-    Reply {
-        answer: Answer::Response { len: n + 2 },
-        session: s,
-    }
+    octets::put_word(resp, head.len() + body.len(), 0x9000);
 }
 
 // An answer longer than Le: the whole is held, and its first bytes go out.
-fn send_part(
-    s: Session,
-    work: &mut [u8],
-    resp: &mut [u8],
-    le: usize,
-    head: &[u8],
-    body: &[u8],
-) -> Reply
+fn send_part(work: &mut [u8], resp: &mut [u8], le: usize, head: &[u8], body: &[u8])
     requires { ⌜ (le ≤ 256) × (258 ≤ length (now resp)) × (le < length (now head) + length (now body)) × (length (now head) + length (now body) ≤ 13321) × (length (now work) ≡ 13321) ⌝ }
-    ensures { λ r. ⌜ ((m : List ℕ) → outcome r m (now (work .exit)) (now (resp .exit)) ≡ (delivered (now (resp .entry)) (send (state m (now (work .entry)) s) le (now (head .entry) ++ now (body .entry)))) .outcome) ⌝ }
+    ensures { λ _. ⌜ (now (work .exit) ≡ splice (now (work .entry)) 0 (now (head .entry) ++ now (body .entry))) × (now (resp .exit) ≡ splice (now (resp .entry)) 0 (take le (now (head .entry) ++ now (body .entry)) ++ word (leftWord (length (now (head .entry)) + length (now (body .entry)) - le)))) ⌝ }
 {
     let n = head.len() + body.len();
     join(work, head, body);
     show(resp, octets::part(work, 0, le), left_word(n - le));
-    Reply {
-        answer: Answer::Response { len: le + 2 },
-        session: session::holding(
-            s,
-            Chain::Shut,
-            Rest::Left {
-                whole: n,
-                fetched: le,
-            },
-        ),
-    }
 }
 
 // Every data answer goes out here.
-pub fn send(
-    s: Session,
-    work: &mut [u8],
-    resp: &mut [u8],
-    le: usize,
-    head: &[u8],
-    body: &[u8],
-) -> Reply
+pub fn send(work: &mut [u8], resp: &mut [u8], le: usize, head: &[u8], body: &[u8]) -> Sent
     requires { ⌜ (le ≤ 256) × (258 ≤ length (now resp)) × (length (now head) + length (now body) ≤ 13321) × (length (now work) ≡ 13321) ⌝ }
-    ensures { λ r. ⌜ ((m : List ℕ) → outcome r m (now (work .exit)) (now (resp .exit)) ≡ (delivered (now (resp .entry)) (send (state m (now (work .entry)) s) le (now (head .entry) ++ now (body .entry)))) .outcome) ⌝ }
+    ensures { λ r. ⌜ ((s : Session) (m : List ℕ) → outcome (sentReply s r) m (now (work .exit)) (now (resp .exit)) ≡ (delivered (now (resp .entry)) (send (state m (now (work .entry)) s) le (now (head .entry) ++ now (body .entry)))) .outcome) ⌝ }
 {
-    if head.len() + body.len() <= le {
-        return send_all(s, resp, head, body);
+    let n = head.len() + body.len();
+    if n <= le {
+        send_all(resp, head, body);
+        return Sent::All { len: n + 2 };
     }
-    send_part(s, work, resp, le, head, body)
+    send_part(work, resp, le, head, body);
+    Sent::First {
+        len: le + 2,
+        whole: n,
+        fetched: le,
+    }
+}
+
+pub fn told(s: Session, x: Sent) -> Reply
+    ensures { λ r. ⌜ r ≡ sentReply s x ⌝ }
+{
+    match x {
+        Sent::All { len } => Reply {
+            answer: Answer::Response { len },
+            session: s,
+        },
+        Sent::First {
+            len,
+            whole,
+            fetched,
+        } => Reply {
+            answer: Answer::Response { len },
+            session: session::holding(s, Chain::Shut, Rest::Left { whole, fetched }),
+        },
+    }
 }
 
 // The rest of what is held goes out, and the held bytes become zero.

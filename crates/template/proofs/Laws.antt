@@ -24,7 +24,6 @@ use Rattle.rules.specs.declared.Found.the-variants.{Value, Missing}
 use Rattle.rules.specs.declared.Admin.{Admin}
 use Rattle.rules.specs.declared.Admin.the-variants.{GiveChallenge, Reply, NoForm}
 use Rattle.rules.specs.declared.Header.{Header}
-use Rattle.rules.specs.declared.Session.{Session}
 use Rattle.rules.specs.Bytes.{iff, part, be64}
 use Rattle.rules.specs.Ber.{objectAt, lastAt}
 use Rattle.rules.specs.Session.{State, inSession, withAdmin}
@@ -41,16 +40,14 @@ module _ (st : State) (ch : Challenge) (r : ℕ) where
   unfolding replied
   reply-unasked e = ap (λ (c : Challenge). replied st c r) e
 
-  module _ (x : ℕ) (e : ch ≡ Awaits x) (t : Session) where
-    pub reply-equal : x ≡ r → t ≡ withAdmin (st .session) true → replied st ch r ≡ says (inSession st t) 0x9000
+  module _ (x : ℕ) (e : ch ≡ Awaits x) where
+    pub reply-equal : x ≡ r → replied st ch r ≡ says (inSession st (withAdmin (st .session) true)) 0x9000
     unfolding replied
-    reply-equal p q =
-        ap (λ (c : Challenge). replied st c r) e ∙ on _ _ _ (eq-eqb x r p) ∙ ap (λ (u : Session). says (inSession st u) 0x9000) (sym q)
+    reply-equal p = ap (λ (c : Challenge). replied st c r) e ∙ on _ _ _ (eq-eqb x r p)
 
-    pub reply-other : (x ≡ r → ⊥) → t ≡ withAdmin (st .session) false → replied st ch r ≡ says (inSession st t) 0x6982
+    pub reply-other : (x ≡ r → ⊥) → replied st ch r ≡ says (inSession st (withAdmin (st .session) false)) 0x6982
     unfolding replied
-    reply-other p q =
-        ap (λ (c : Challenge). replied st c r) e ∙ off _ _ _ (ne-eqb x r p) ∙ ap (λ (u : Session). says (inSession st u) 0x6982) (sym q)
+    reply-other p = ap (λ (c : Challenge). replied st c r) e ∙ off _ _ _ (ne-eqb x r p)
 
 module _ (ch : Challenge) (st : State) (le : ℕ) (t : List ℕ) (f : Admin) where
   pub admin-challenge : (d : List ℕ) → f ≡ GiveChallenge → d ≡ [] → authAdmin ch st le t f ≡ opened st 0x9B 0x00 le d

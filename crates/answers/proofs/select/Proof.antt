@@ -7,7 +7,7 @@ use Rattle.rules.specs.Ber.{bits, lengthBytes, lengthForm, berLength, tlv}
 use Rattle.rules.specs.Session.{state}
 use Rattle.rules.specs.Objects.{template}
 use Rattle.rules.proofs.Tests.{negated}
-use Rattle.saying.proofs.Laws.{delivers}
+use Rattle.saying.proofs.Laws.{replies, delivers}
 use Rattle.answers.proofs.Laws.{select-p1, select-p2, select-aid, select-ok}
 use borrow.Author.Needs.{needs}
 use Rattle.answers.proofs.select.Statement.{statement}
@@ -61,6 +61,9 @@ slice-aggregate-send-2 c = search needs
 send-requires : tie.Need-send-requires
 send-requires c κs = search needs
 
+told-requires : tie.Need-told-requires
+told-requires c κs = search needs
+
 same-length-4 : tie.Need-same-length-4
 same-length-4 c = search needs
 
@@ -70,9 +73,10 @@ same-length-5 c = search needs
 returns-4 : tie.Need-returns-4
 unfolding template tlv berLength lengthForm lengthBytes bits leadingZeros iff
 returns-4 c = λ m.
-    let a = c .before .before .before .before .before .before .before .before .before .before .before .before .before .before .before .before .before .before .args in
-    c .before .before .before .before .send .ensures m
-    ∙ delivers (a .resp .now) (select-ok (state m (a .work .now) (a .s)) (a .h) (a .field .now) (c .before .before .before .before .before .before .before .before .before .before .before .before .before .if1 .left) (c .before .before .before .before .before .before .before .before .before .before .before .if2 .left) (negated (c .before .before .before .before .before .before .before .before .before .before .ours .ensures) (c .before .before .before .before .before .before .before .before .before .if3 .left)))
+    let a = c .before .before .before .before .before .before .before .before .before .before .before .before .before .before .before .before .before .before .before .args in
+    replies m (c .told .ensures)
+    ∙ c .before .before .before .before .before .send .ensures (a .s) m
+    ∙ delivers (a .resp .now) (select-ok (state m (a .work .now) (a .s)) (a .h) (a .field .now) (c .before .before .before .before .before .before .before .before .before .before .before .before .before .before .if1 .left) (c .before .before .before .before .before .before .before .before .before .before .before .before .if2 .left) (negated (c .before .before .before .before .before .before .before .before .before .before .before .ours .ensures) (c .before .before .before .before .before .before .before .before .before .before .if3 .left)))
 
 pub select-spec : {M : Type 1} → statement M
 select-spec =
@@ -91,6 +95,7 @@ select-spec =
     slice-aggregate-send
     slice-aggregate-send-2
     send-requires
+    told-requires
     same-length-4
     same-length-5
     returns-4)

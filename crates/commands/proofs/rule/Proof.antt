@@ -1,11 +1,11 @@
 -- The rule of each INS.
 -- Assumes nothing.
-use mathlib.Core.Path.{_∙_}
+use mathlib.Core.Path.{sym, _∙_}
 use native.Mathlib.Omega.{arith}
 use Rattle.rules.specs.Session.{state}
 use Rattle.rules.proofs.WellFormed.{wf-size}
 use Rattle.saying.proofs.Laws.{delivers}
-use Rattle.commands.proofs.Laws.{ruled-select, ruled-data, ruled-response, ruled-verify, ruled-change, ruled-reset, ruled-auth, ruled-put}
+use Rattle.commands.proofs.Laws.{ruled-select, ruled-data, ruled-response, ruled-pin, ruled-auth, ruled-put}
 use borrow.Author.Needs.{needs}
 use Rattle.commands.proofs.rule.Statement.{statement}
 use Rattle.commands.proofs.rule.Tie as tie
@@ -58,9 +58,12 @@ returns-3 c =
     c .before .before .before .before .get-response .ensures (a .store .now)
     ∙ delivers (a .resp .now) (ruled-response (state (a .store .now) (a .work .now) (a .s)) (a .ch) (a .h) (a .field .now) (c .before .before .before .before .before .before .before .if3 .taken))
 
+on-reference-requires : tie.Need-on-reference-requires
+on-reference-requires c κs = search needs
+
 command-requires : tie.Need-command-requires
 command-requires c κs =
-    let i = c .before .before .before .before .before .before .before .before .before .before .before in
+    let i = c .before .before .before .before .before .before .before .before .before .before .before .before in
     omega (arith, wf-size (i .args .store .now) (i .pre .2), i .pre)
 
 same-length-8 : tie.Need-same-length-8
@@ -74,89 +77,49 @@ same-length-10 c = c .before .before .before .before .before .before .command .k
 
 returns-4 : tie.Need-returns-4
 returns-4 c =
-    let a = c .before .before .before .before .before .before .before .before .before .before .before .before .before .before .before .before .before .before .args in
+    let a = c .before .before .before .before .before .before .before .before .before .before .before .before .before .before .before .before .before .before .before .args in
     c .before .before .before .before .before .before .command .ensures
-    ∙ delivers (a .resp .now) (ruled-verify (state (a .store .now) (a .work .now) (a .s)) (a .ch) (a .h) (a .field .now) (c .before .before .before .before .before .before .before .before .before .before .if4 .taken))
+    ∙ delivers (a .resp .now) (ruled-pin (state (a .store .now) (a .work .now) (a .s)) (a .ch) (a .h) (a .field .now) (sym (c .before .before .before .before .before .before .before .before .before .before .before .on-reference .ensures) ∙ c .before .before .before .before .before .before .before .before .before .before .if4 .taken))
 
-command-requires-2 : tie.Need-command-requires-2
-command-requires-2 c κs =
-    let i = c .before .before .before .before .before .before .before .before .before .before .before .before in
+authenticate-requires : tie.Need-authenticate-requires
+authenticate-requires c κs =
+    let i = c .before .before .before .before .before .before .before .before .before .before .before .before .before in
     omega (arith, wf-size (i .args .store .now) (i .pre .2), i .pre)
 
 same-length-11 : tie.Need-same-length-11
-same-length-11 c = c .before .before .before .before .before .before .command2 .kept .1 .0
+same-length-11 c = search needs
 
 same-length-12 : tie.Need-same-length-12
-same-length-12 c = c .before .before .before .before .before .before .command2 .kept .1 .1 .0
+same-length-12 c = c .before .before .before .before .authenticate .kept .1 .1 .1 .0
 
 same-length-13 : tie.Need-same-length-13
-same-length-13 c = c .before .before .before .before .before .before .command2 .kept .1 .1 .1 .0
+same-length-13 c = c .before .before .before .before .authenticate .kept .1 .1 .1 .1 .0
 
 returns-5 : tie.Need-returns-5
 returns-5 c =
-    let a = c .before .before .before .before .before .before .before .before .before .before .before .before .before .before .before .before .before .before .before .args in
-    c .before .before .before .before .before .before .command2 .ensures
-    ∙ delivers (a .resp .now) (ruled-change (state (a .store .now) (a .work .now) (a .s)) (a .ch) (a .h) (a .field .now) (c .before .before .before .before .before .before .before .before .before .before .if5 .taken))
+    let a = c .before .before .before .before .before .before .before .before .before .before .before .before .before .before .before .before .before .before .args in
+    c .before .before .before .before .authenticate .ensures
+    ∙ delivers (a .resp .now) (ruled-auth (state (a .store .now) (a .work .now) (a .s)) (a .ch) (a .h) (a .field .now) (c .before .before .before .before .before .before .before .before .if5 .taken))
 
-command-requires-3 : tie.Need-command-requires-3
-command-requires-3 c κs =
+put-data-requires : tie.Need-put-data-requires
+put-data-requires c κs =
     let i = c .before .before .before .before .before .before .before .before .before .before .before .before .before in
     omega (arith, wf-size (i .args .store .now) (i .pre .2), i .pre)
 
 same-length-14 : tie.Need-same-length-14
-same-length-14 c = c .before .before .before .before .before .before .command3 .kept .1 .0
+same-length-14 c = c .before .before .before .before .before .before .put-data .kept .1 .0
 
 same-length-15 : tie.Need-same-length-15
-same-length-15 c = c .before .before .before .before .before .before .command3 .kept .1 .1 .0
+same-length-15 c = c .before .before .before .before .before .before .put-data .kept .1 .1 .0
 
 same-length-16 : tie.Need-same-length-16
-same-length-16 c = c .before .before .before .before .before .before .command3 .kept .1 .1 .1 .0
+same-length-16 c = c .before .before .before .before .before .before .put-data .kept .1 .1 .1 .0
 
 returns-6 : tie.Need-returns-6
 returns-6 c =
     let a = c .before .before .before .before .before .before .before .before .before .before .before .before .before .before .before .before .before .before .before .before .args in
-    c .before .before .before .before .before .before .command3 .ensures
-    ∙ delivers (a .resp .now) (ruled-reset (state (a .store .now) (a .work .now) (a .s)) (a .ch) (a .h) (a .field .now) (c .before .before .before .before .before .before .before .before .before .before .if6 .taken))
-
-authenticate-requires : tie.Need-authenticate-requires
-authenticate-requires c κs =
-    let i = c .before .before .before .before .before .before .before .before .before .before .before .before .before .before in
-    omega (arith, wf-size (i .args .store .now) (i .pre .2), i .pre)
-
-same-length-17 : tie.Need-same-length-17
-same-length-17 c = search needs
-
-same-length-18 : tie.Need-same-length-18
-same-length-18 c = c .before .before .before .before .authenticate .kept .1 .1 .1 .0
-
-same-length-19 : tie.Need-same-length-19
-same-length-19 c = c .before .before .before .before .authenticate .kept .1 .1 .1 .1 .0
-
-returns-7 : tie.Need-returns-7
-returns-7 c =
-    let a = c .before .before .before .before .before .before .before .before .before .before .before .before .before .before .before .before .before .before .before .args in
-    c .before .before .before .before .authenticate .ensures
-    ∙ delivers (a .resp .now) (ruled-auth (state (a .store .now) (a .work .now) (a .s)) (a .ch) (a .h) (a .field .now) (c .before .before .before .before .before .before .before .before .if7 .taken))
-
-put-data-requires : tie.Need-put-data-requires
-put-data-requires c κs =
-    let i = c .before .before .before .before .before .before .before .before .before .before .before .before .before .before in
-    omega (arith, wf-size (i .args .store .now) (i .pre .2), i .pre)
-
-same-length-20 : tie.Need-same-length-20
-same-length-20 c = c .before .before .before .before .before .before .put-data .kept .1 .0
-
-same-length-21 : tie.Need-same-length-21
-same-length-21 c = c .before .before .before .before .before .before .put-data .kept .1 .1 .0
-
-same-length-22 : tie.Need-same-length-22
-same-length-22 c = c .before .before .before .before .before .before .put-data .kept .1 .1 .1 .0
-
-returns-8 : tie.Need-returns-8
-returns-8 c =
-    let a = c .before .before .before .before .before .before .before .before .before .before .before .before .before .before .before .before .before .before .before .before .before .args in
     c .before .before .before .before .before .before .put-data .ensures
-    ∙ delivers (a .resp .now) (ruled-put (state (a .store .now) (a .work .now) (a .s)) (a .ch) (a .h) (a .field .now) (c .before .before .before .before .before .before .before .before .before .before .before .before .before .before .before .before .if1 .left) (c .before .before .before .before .before .before .before .before .before .before .before .before .before .before .before .if2 .left) (c .before .before .before .before .before .before .before .before .before .before .before .before .before .before .if3 .left) (c .before .before .before .before .before .before .before .before .before .before .before .before .before .if4 .left) (c .before .before .before .before .before .before .before .before .before .before .before .before .if5 .left) (c .before .before .before .before .before .before .before .before .before .before .before .if6 .left) (c .before .before .before .before .before .before .before .before .before .before .if7 .left))
+    ∙ delivers (a .resp .now) (ruled-put (state (a .store .now) (a .work .now) (a .s)) (a .ch) (a .h) (a .field .now) (c .before .before .before .before .before .before .before .before .before .before .before .before .before .before .before .if1 .left) (c .before .before .before .before .before .before .before .before .before .before .before .before .before .before .if2 .left) (c .before .before .before .before .before .before .before .before .before .before .before .before .before .if3 .left) (sym (c .before .before .before .before .before .before .before .before .before .before .before .before .on-reference .ensures) ∙ c .before .before .before .before .before .before .before .before .before .before .before .if4 .left) (c .before .before .before .before .before .before .before .before .before .before .if5 .left))
 
 pub rule-spec : {M : Type 1} → statement M
 rule-spec =
@@ -175,28 +138,19 @@ rule-spec =
     same-length-6
     same-length-7
     returns-3
+    on-reference-requires
     command-requires
     same-length-8
     same-length-9
     same-length-10
     returns-4
-    command-requires-2
+    authenticate-requires
     same-length-11
     same-length-12
     same-length-13
     returns-5
-    command-requires-3
+    put-data-requires
     same-length-14
     same-length-15
     same-length-16
-    returns-6
-    authenticate-requires
-    same-length-17
-    same-length-18
-    same-length-19
-    returns-7
-    put-data-requires
-    same-length-20
-    same-length-21
-    same-length-22
-    returns-8)
+    returns-6)

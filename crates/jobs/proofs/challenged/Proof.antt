@@ -12,7 +12,7 @@ use Rattle.rules.specs.Session.{state, withChallenge}
 use Rattle.rules.specs.Held.{send}
 use Rattle.rules.specs.Keys.{challenged}
 use Rattle.rules.specs.Calls.{delivered, outcome}
-use Rattle.saying.proofs.Laws.{length-of-part}
+use Rattle.saying.proofs.Laws.{replies, length-of-part}
 use borrow.Author.Needs.{needs}
 use Rattle.jobs.proofs.challenged.Statement.{statement}
 use Rattle.jobs.proofs.challenged.Tie as tie
@@ -31,6 +31,9 @@ give-requires c κs =
     let i = c .before .before .before .before .before .before .before .before in
     omega (arith, length-of-part _ (i .args .result .now) 0 8 (c .part .ensures) (omega (arith, i .pre)), i .pre)
 
+told-requires : tie.Need-told-requires
+told-requires c κs = search needs
+
 same-length : tie.Need-same-length
 same-length c = search needs
 
@@ -40,12 +43,13 @@ same-length-2 c = search needs
 returns : tie.Need-returns
 unfolding challenged part
 returns c = λ m.
-    let a = c .before .before .before .before .before .before .before .before .before .before .before .before .before .args in
-    let e = c .before .before .before .before .before .before .before .before .with-challenge .ensures ∙ ap (λ (n : ℕ). withChallenge (a .s) (Awaits n))
-    (c .before .before .before .before .before .before .before .before .before .be64 .ensures) in
-    c .before .before .before .before .give .ensures m
+    let a = c .before .before .before .before .before .before .before .before .before .before .before .before .before .before .args in
+    let e = c .before .before .before .before .before .before .before .before .before .with-challenge .ensures ∙ ap (λ (n : ℕ). withChallenge (a .s) (Awaits n))
+    (c .before .before .before .before .before .before .before .before .before .before .be64 .ensures) in
+    replies m (c .told .ensures)
+    ∙ c .before .before .before .before .before .give .ensures (c .before .before .before .before .before .before .before .before .before .with-challenge .result) m
     ∙ ap₂ (λ (t : Session) (d : List ℕ). (delivered (a .resp .now) (send (state m (a .work .now) t) (a .le) (tlv 0x7C (tlv 0x81 d)))) .outcome) e
-    (c .before .before .before .before .before .part .ensures)
+    (c .before .before .before .before .before .before .part .ensures)
 
 pub challenged-spec : {M : Type 1} → statement M
 challenged-spec =
@@ -55,6 +59,7 @@ challenged-spec =
     with-challenge-requires
     part-requires
     give-requires
+    told-requires
     same-length
     same-length-2
     returns)

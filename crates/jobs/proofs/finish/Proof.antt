@@ -3,7 +3,7 @@
 use mathlib.Core.Path.{_∙_}
 use native.Mathlib.Omega.{arith}
 use Rattle.rules.specs.Session.{state}
-use Rattle.saying.proofs.Laws.{delivers}
+use Rattle.saying.proofs.Laws.{replies, delivers}
 use Rattle.jobs.proofs.Laws.{le-small, fits-short, fits-sixteen, done-none, done-failed, done-challenge, done-result}
 use borrow.Author.Needs.{needs}
 use Rattle.jobs.proofs.finish.Statement.{statement}
@@ -87,6 +87,9 @@ give-requires c κs =
       i .pre .1,
     )
 
+told-requires : tie.Need-told-requires
+told-requires c κs = search needs
+
 same-length-5 : tie.Need-same-length-5
 same-length-5 c = search needs
 
@@ -95,12 +98,13 @@ same-length-6 c = search needs
 
 returns-4 : tie.Need-returns-4
 returns-4 c = λ m.
-    let a = c .before .before .before .before .before .before .before .before .before .before .before .before .before .before .before .before .args in
-    c .before .before .before .before .give .ensures m
+    let a = c .before .before .before .before .before .before .before .before .before .before .before .before .before .before .before .before .before .args in
+    replies m (c .told .ensures)
+    ∙ c .before .before .before .before .before .give .ensures (c .before .before .before .before .before .before .before .before .before .before .with-job .result) m
     ∙ delivers (a .resp .now) (done-result (state m (a .work .now) (a .s)) (a .s .job) (a .failed) (a .result .now) _ _ _
-    (c .before .before .before .before .before .before .before .before .before .before .before .job .given .1) _
-    (c .before .before .before .before .before .before .before .before .before .with-job .ensures)
-    (c .before .before .before .before .before .before .before .before .if1 .left) (c .before .before .before .before .before .before .before .if2 .left))
+    (c .before .before .before .before .before .before .before .before .before .before .before .before .job .given .1) _
+    (c .before .before .before .before .before .before .before .before .before .before .with-job .ensures)
+    (c .before .before .before .before .before .before .before .before .before .if1 .left) (c .before .before .before .before .before .before .before .before .if2 .left))
 
 pub finish-spec : {M : Type 1} → statement M
 finish-spec =
@@ -120,6 +124,7 @@ finish-spec =
     same-length-4
     returns-3
     give-requires
+    told-requires
     same-length-5
     same-length-6
     returns-4)

@@ -43,10 +43,10 @@ same-length-2 : tie.Need-same-length-2
 same-length-2 c = search needs
 
 returns : tie.Need-returns
-returns c = λ m.
+returns c = λ s m.
     let a = c .before .before .before .before .before .before .before .before .before .before .before .before .before .before .args in
-    c .before .before .before .before .send .ensures m
-    ∙ ap (λ (d : List ℕ). (delivered (a .resp .now) (send (state m (a .work .now) (a .s)) (a .le) d)) .outcome)
+    c .before .before .before .before .send .ensures s m
+    ∙ ap (λ (d : List ℕ). (delivered (a .resp .now) (send (state m (a .work .now) s) (a .le) d)) .outcome)
     (c .before .before .before .before .before .before .before .before .before .heads .ensures .1 (a .v .now) refl)
 
 pub give-spec : {M : Type 1} → statement M

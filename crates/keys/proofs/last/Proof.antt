@@ -3,7 +3,7 @@
 use mathlib.Core.Path.{ap, _∙_}
 use native.Mathlib.Omega.{arith}
 use Rattle.rules.specs.Session.{chainLength}
-use Rattle.saying.proofs.Laws.{delivers}
+use Rattle.saying.proofs.Laws.{replies, delivers}
 use Rattle.keys.proofs.Laws.{last-open, last-shut}
 use borrow.Author.Needs.{needs}
 use Rattle.keys.proofs.last.Statement.{statement}
@@ -21,15 +21,19 @@ enum-told c = search needs
 whole-requires : tie.Need-whole-requires
 whole-requires c κs = search needs
 
+told-requires : tie.Need-told-requires
+told-requires c κs = search needs
+
 same-length : tie.Need-same-length
 same-length c = search needs
 
 returns : tie.Need-returns
 returns c = λ m.
-    let a = c .before .before .before .before .before .before .before .before .before .before .args in
-    c .before .before .whole .ensures m (a .work .now)
-    ∙ delivers (a .resp .now) (last-shut (a .ch) (a .h) m (a .work .now) (a .field .now) (a .s) _ (c .before .before .before .before .before .before .holding .ensures)
-    (c .before .before .before .before .enum-told .given .1))
+    let a = c .before .before .before .before .before .before .before .before .before .before .before .args in
+    replies m (c .told .ensures)
+    ∙ c .before .before .before .whole .ensures (c .before .before .before .before .before .before .before .holding .result) m (a .work .now)
+    ∙ delivers (a .resp .now) (last-shut (a .ch) (a .h) m (a .work .now) (a .field .now) (a .s) _ (c .before .before .before .before .before .before .before .holding .ensures)
+    (c .before .before .before .before .before .enum-told .given .1))
 
 last-of-chain-requires : tie.Need-last-of-chain-requires
 last-of-chain-requires c κs =
@@ -58,6 +62,7 @@ last-spec =
     enum-known-chain
     enum-told
     whole-requires
+    told-requires
     same-length
     returns
     last-of-chain-requires

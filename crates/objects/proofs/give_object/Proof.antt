@@ -9,7 +9,7 @@ use Rattle.rules.specs.Ber.{tlv, berLength}
 use Rattle.rules.specs.Session.{state}
 use Rattle.rules.specs.Held.{send}
 use Rattle.rules.specs.Calls.{delivered, outcome}
-use Rattle.saying.proofs.Laws.{delivers}
+use Rattle.saying.proofs.Laws.{replies, delivers}
 use Rattle.heads.proofs.Laws.{head-written}
 use Rattle.objects.proofs.Laws.{give-none, give-some}
 use mathlib.Core.List.{_∷_}
@@ -58,6 +58,9 @@ send-requires c κs =
     let h = head-written (k .last .0) _ (k .result) _ (length (i .args .v .now)) (omega (arith, i .pre)) (omega arith) (k .ensures .0) (k .ensures .1) in
     omega (arith, h .count, h .short, i .pre)
 
+told-requires : tie.Need-told-requires
+told-requires c κs = search needs
+
 same-length-2 : tie.Need-same-length-2
 same-length-2 c = search needs
 
@@ -67,15 +70,16 @@ same-length-3 c = search needs
 returns-2 : tie.Need-returns-2
 unfolding tlv
 returns-2 c = λ m.
-    let i = c .before .before .before .before .before .before .before .before .before .before .before .before .before .before .before .before in
-    let k = c .before .before .before .before .before .before .before .before .before .write-head in
+    let i = c .before .before .before .before .before .before .before .before .before .before .before .before .before .before .before .before .before in
+    let k = c .before .before .before .before .before .before .before .before .before .before .write-head in
     let h = head-written (k .last .0) _ (k .result) _ (length (i .args .v .now)) (omega (arith, i .pre)) (omega arith) (k .ensures .0) (k .ensures .1) in
     let a = i .args in
     let st = state m (a .work .now) (a .s) in
-    let e = h .taken ∙ ap (λ (t : ℕ). t ∷ berLength (length (a .v .now))) (c .before .before .before .before .before .before .before .before .before .before .object-tag .ensures) in
-    c .before .before .before .before .send .ensures m
+    let e = h .taken ∙ ap (λ (t : ℕ). t ∷ berLength (length (a .v .now))) (c .before .before .before .before .before .before .before .before .before .before .before .object-tag .ensures) in
+    replies m (c .told .ensures)
+    ∙ c .before .before .before .before .before .send .ensures (a .s) m
     ∙ ap (λ (l : List ℕ). (delivered (a .resp .now) (send st (a .le) (l ++ a .v .now))) .outcome) e
-    ∙ delivers (a .resp .now) (give-some st (a .le) (a .slot) (a .v .now) (c .before .before .before .before .before .before .before .before .before .before .before .before .if1 .left))
+    ∙ delivers (a .resp .now) (give-some st (a .le) (a .slot) (a .v .now) (c .before .before .before .before .before .before .before .before .before .before .before .before .before .if1 .left))
 
 pub give-object-spec : {M : Type 1} → statement M
 give-object-spec =
@@ -90,6 +94,7 @@ give-object-spec =
     array-share-prefix-head
     slice-aggregate-send
     send-requires
+    told-requires
     same-length-2
     same-length-3
     returns-2)

@@ -28,10 +28,10 @@ same-length : tie.Need-same-length
 same-length c = search needs
 
 returns : tie.Need-returns
-returns c = λ m w.
+returns c = λ s m w.
     let a = c .before .before .before .before .before .before .before .before .before .before .args in
-    c .before .before .opened .ensures m w
-    ∙ delivers (a .resp .now) (admin-challenge (a .ch) (state m w (a .s)) (a .le) (a .t .now) _ _
+    c .before .before .opened .ensures s m w
+    ∙ delivers (a .resp .now) (admin-challenge (a .ch) (state m w s) (a .le) (a .t .now) _ _
     (sym (c .before .before .before .before .before .before .before .admin-form .ensures) ∙ c .before .before .before .before .before .enum-told .given .1)
     (c .before .before .before .part .ensures ∙ part-none (a .t .now) 0))
 
@@ -52,27 +52,27 @@ same-length-2 : tie.Need-same-length-2
 same-length-2 c = search needs
 
 returns-2 : tie.Need-returns-2
-returns-2 c = λ m w.
+returns-2 c = λ s m w.
     let a = c .before .before .before .before .before .before .before .before .before .before .before .args in
-    c .before .before .replied .ensures m w
-    ∙ delivers (a .resp .now) (admin-reply (a .ch) (state m w (a .s)) (a .le) (a .t .now) _ _ _
+    c .before .before .replied .ensures s m w
+    ∙ delivers (a .resp .now) (admin-reply (a .ch) (state m w s) (a .le) (a .t .now) _ _ _
     (sym (c .before .before .before .before .before .before .before .before .admin-form .ensures)
     ∙ c .before .before .before .before .before .before .from .given .1) (c .before .before .before .be64 .ensures))
 
 enum-told-2 : tie.Need-enum-told-2
 enum-told-2 c = search needs
 
-say-requires : tie.Need-say-requires
-say-requires c κs = search needs
+says-requires : tie.Need-says-requires
+says-requires c κs = search needs
 
 same-length-3 : tie.Need-same-length-3
 same-length-3 c = search needs
 
 returns-3 : tie.Need-returns-3
-returns-3 c = λ m w.
+returns-3 c = λ s m w.
     let a = c .before .before .before .before .before .before .before .before .before .args in
-    c .before .before .say .ensures m w
-    ∙ delivers (a .resp .now) (admin-none (a .ch) (state m w (a .s)) (a .le) (a .t .now) _
+    c .before .before .says .ensures s m w
+    ∙ delivers (a .resp .now) (admin-none (a .ch) (state m w s) (a .le) (a .t .now) _
     (sym (c .before .before .before .before .before .before .admin-form .ensures) ∙ c .before .before .before .before .enum-told2 .given .1))
 
 pub auth-admin-spec : {M : Type 1} → statement M
@@ -91,6 +91,6 @@ auth-admin-spec =
     same-length-2
     returns-2
     enum-told-2
-    say-requires
+    says-requires
     same-length-3
     returns-3)

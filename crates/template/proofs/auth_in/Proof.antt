@@ -15,10 +15,10 @@ same-length : tie.Need-same-length
 same-length c = search needs
 
 returns : tie.Need-returns
-returns c = λ m w.
+returns c = λ s m w.
     let a = c .before .before .before .before .before .before .before .before .args in
-    c .before .before .auth-admin .ensures m w
-    ∙ delivers (a .resp .now) (in-admin (a .ch) (a .h) (state m w (a .s)) (a .t .now) (c .before .before .before .before .if1 .taken))
+    c .before .before .auth-admin .ensures s m w
+    ∙ delivers (a .resp .now) (in-admin (a .ch) (a .h) (state m w s) (a .t .now) (c .before .before .before .before .if1 .taken))
 
 auth-key-requires : tie.Need-auth-key-requires
 auth-key-requires c κs = search needs
@@ -27,10 +27,10 @@ same-length-2 : tie.Need-same-length-2
 same-length-2 c = search needs
 
 returns-2 : tie.Need-returns-2
-returns-2 c = λ m w.
+returns-2 c = λ s m w.
     let a = c .before .before .before .before .before .before .before .before .args in
-    c .before .before .auth-key .ensures m w
-    ∙ delivers (a .resp .now) (in-key (a .ch) (a .h) (state m w (a .s)) (a .t .now) (c .before .before .before .before .if1 .left))
+    c .before .before .auth-key .ensures s m w
+    ∙ delivers (a .resp .now) (in-key (a .ch) (a .h) (state m w s) (a .t .now) (c .before .before .before .before .if1 .left))
 
 pub auth-in-spec : {M : Type 1} → statement M
 auth-in-spec =
