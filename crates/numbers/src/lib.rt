@@ -22,13 +22,16 @@ pub fn be24(s: &[u8], at: usize) -> u32
     first * 65536 + rest
 }
 
+// As one sum of bytes: in this form the compiler reads them by one load.
 fn be32(s: &[u8], at: usize) -> u32
     requires { ⌜ at + 4 ≤ length (now s) ⌝ }
     ensures { λ r. ⌜ r ≡ be32 (now (s .entry)) at ⌝ }
 {
-    let high = be16(s, at) as u32;
-    let low = be16(s, at + 2) as u32;
-    high * 65536 + low
+    let first = s[at] as u32;
+    let second = s[at + 1] as u32;
+    let third = s[at + 2] as u32;
+    let fourth = s[at + 3] as u32;
+    first * 16777216 + second * 65536 + third * 256 + fourth
 }
 
 pub fn be64(s: &[u8], at: usize) -> u64

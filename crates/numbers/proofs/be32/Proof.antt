@@ -1,58 +1,110 @@
--- `numbers::be32` meets its contract: each half is a number of 16 bits, so nothing wraps.
+-- `numbers::be32` meets its contract: each of the four elements is a byte, so nothing wraps.
 -- Assumes nothing.
-use Prim.Native.Nat.{_+_, _^_, _<_}
+use mathlib.Core.Path.{_≡_, ap}
+use Prim.Native.Nat.{ℕ, _+_}
 use native.Mathlib.Omega.{arith}
-use borrow.Author.Needs.{needs}
+use lib.ListN.{getD}
 use denote.Ref.{now}
-use Rattle.rules.specs.Bytes.{be32}
-use Rattle.numbers.proofs.Numbers.{number16}
+use borrow.Author.Needs.{needs}
+use Rattle.rules.specs.Bytes.{be16, be32}
 use Rattle.numbers.proofs.be32.Statement.{statement}
 use Rattle.numbers.proofs.be32.Tie as tie
 
-be16-requires : tie.Need-be16-requires
-be16-requires c κs = search needs
+shared-slice-read-first : tie.Need-shared-slice-read-first
+shared-slice-read-first c = search needs
 
-high : (c : tie.After-be16) → c .be16 .result < 2 ^ 16
-high c =
-    let a = c .before .before .args in
-    rw (c .be16 .ensures) (number16 .below (now (a .s)) (λ i. c .before .shared-slice-known .given i .fits) (a .at))
+cast-first : tie.Need-cast-first
+cast-first c = omega (arith, c .shared-slice-known .given (c .before .args .at))
 
-cast-high : tie.Need-cast-high
-cast-high c = omega (arith, high c)
+add-second : tie.Need-add-second
+add-second c = search needs
 
-add-be16 : tie.Need-add-be16
-add-be16 c = search needs
+shared-slice-read-second : tie.Need-shared-slice-read-second
+shared-slice-read-second c = search needs
 
-be16-requires-2 : tie.Need-be16-requires-2
-be16-requires-2 c κs = search needs
+cast-second : tie.Need-cast-second
+cast-second c = omega (arith, c .shared-slice-known2 .given (c .before .before .args .at + 1))
 
-low : (c : tie.After-be162) → c .be162 .result < 2 ^ 16
-low c =
-    let a = c .before .before .before .args in
-    rw (c .be162 .ensures) (number16 .below (now (a .s)) (λ i. c .before .before .shared-slice-known .given i .fits) (a .at + 2))
+add-third : tie.Need-add-third
+add-third c = search needs
 
-cast-low : tie.Need-cast-low
-cast-low c = omega (arith, low c)
+shared-slice-read-third : tie.Need-shared-slice-read-third
+shared-slice-read-third c = search needs
+
+cast-third : tie.Need-cast-third
+cast-third c = omega (arith, c .shared-slice-known3 .given (c .before .before .before .args .at + 2))
+
+add-fourth : tie.Need-add-fourth
+add-fourth c = search needs
+
+shared-slice-read-fourth : tie.Need-shared-slice-read-fourth
+shared-slice-read-fourth c = search needs
+
+cast-fourth : tie.Need-cast-fourth
+cast-fourth c = omega (arith, c .shared-slice-known4 .given (c .before .before .before .before .args .at + 3))
 
 mul-result : tie.Need-mul-result
-mul-result c = omega (arith, high (c .before), low c)
+mul-result c =
+    let at = c .before .before .before .before .args .at in
+    let g = c .shared-slice-known4 .given in
+    omega (arith, g at, g (at + 1), g (at + 2), g (at + 3))
+
+mul-result-2 : tie.Need-mul-result-2
+mul-result-2 c =
+    let at = c .before .before .before .before .args .at in
+    let g = c .shared-slice-known4 .given in
+    omega (arith, g at, g (at + 1), g (at + 2), g (at + 3))
 
 add-result : tie.Need-add-result
-add-result c = omega (arith, high (c .before), low c)
+add-result c =
+    let at = c .before .before .before .before .args .at in
+    let g = c .shared-slice-known4 .given in
+    omega (arith, g at, g (at + 1), g (at + 2), g (at + 3))
+
+mul-result-3 : tie.Need-mul-result-3
+mul-result-3 c =
+    let at = c .before .before .before .before .args .at in
+    let g = c .shared-slice-known4 .given in
+    omega (arith, g at, g (at + 1), g (at + 2), g (at + 3))
+
+add-result-2 : tie.Need-add-result-2
+add-result-2 c =
+    let at = c .before .before .before .before .args .at in
+    let g = c .shared-slice-known4 .given in
+    omega (arith, g at, g (at + 1), g (at + 2), g (at + 3))
+
+add-result-3 : tie.Need-add-result-3
+add-result-3 c =
+    let at = c .before .before .before .before .args .at in
+    let g = c .shared-slice-known4 .given in
+    omega (arith, g at, g (at + 1), g (at + 2), g (at + 3))
 
 returns : tie.Need-returns
-unfolding be32
-returns c = omega arith
+unfolding be16 be32
+returns c =
+    let a = c .before .before .before .before .args in
+    let e : getD (now (a .s)) (a .at + 2 + 1) 0 ≡ getD (now (a .s)) (a .at + 3) 0 = ap (λ (k : ℕ). getD (now (a .s)) k 0) (omega arith) in
+    omega (arith, e)
 
 pub be32-spec : {M : Type 1} → statement M
 be32-spec =
     tie.close
     (tie.spec
-    be16-requires
-    cast-high
-    add-be16
-    be16-requires-2
-    cast-low
+    shared-slice-read-first
+    cast-first
+    add-second
+    shared-slice-read-second
+    cast-second
+    add-third
+    shared-slice-read-third
+    cast-third
+    add-fourth
+    shared-slice-read-fourth
+    cast-fourth
     mul-result
+    mul-result-2
     add-result
+    mul-result-3
+    add-result-2
+    add-result-3
     returns)
