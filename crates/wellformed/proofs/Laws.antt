@@ -1,20 +1,21 @@
 -- Laws: tests in a row, and the mark as a number.
 --
 --   and-on                 the next test of a row, where the first passes
+--   all-split              a row of tests in two parts
 --   below-more below-off   one number more passes, or a number below does not
 --   mark-number            the mark is compared as a number
 --
 -- Assumes nothing.
 use mathlib.Core.Path.{_≡_, refl, sym, _∙_}
 use mathlib.Core.Bool.{Bool, true, false, _&&_, true≢false, false≢true}
-use mathlib.Core.List.{List}
+use mathlib.Core.List.{List, [], _∷_, _++_}
 use Prim.Native.Nat.{ℕ, _+_, _≤_, _<_}
 use native.Mathlib.Numerals.{add-one}
 use native.Mathlib.Omega.{arith}
 use lib.Dec.{eqb, ltb}
 use lib.ListN.{length, getD, List·getD-eq-default}
 use borrow.Author.Tests.{ltb-true}
-use Rattle.rules.specs.Bytes.{allBelow, sameBytes, part, be16, be32, be64}
+use Rattle.rules.specs.Bytes.{allTrue, allBelow, sameBytes, part, be16, be32, be64}
 use Rattle.rules.specs.Store.{mark}
 use Rattle.rules.specs.Claims.Lengths.{Bytes}
 use Rattle.rules.proofs.Tests.{at-each, and-both, by-order}
@@ -25,6 +26,11 @@ use Rattle.numbers.proofs.Numbers.{number64, number-same}
 pub and-on : (a b : Bool) → a ≡ true → (a && b) ≡ b
 and-on true b e = refl
 and-on false b e = absurd (false≢true e)
+
+pub all-split : (l m : List Bool) → allTrue (l ++ m) ≡ (allTrue l && allTrue m)
+all-split [] m = refl
+all-split (true ∷ l) m = all-split l m
+all-split (false ∷ l) m = refl
 
 module _ (f : ℕ → Bool) (n : ℕ) where
   pub below-more : allBelow f n ≡ true → f n ≡ true → allBelow f (n + 1) ≡ true
