@@ -32,7 +32,8 @@ use Rattle.rules.proofs.Tests.{branch, off, by-order, and-other}
 use Rattle.rules.proofs.WellFormed.{wf-tests}
 use Rattle.rules.proofs.StaysWell.{tries}
 use Rattle.rules.proofs.Earned.{call-earned}
-use Rattle.rules.proofs.Kept.{Zero, Well, Moved, possible-tests, well-fine, held-fits-by, command-kept, finished-kept, length-zeros}
+use Rattle.rules.proofs.Possible.{possible-tests, held-fits-by}
+use Rattle.rules.proofs.Kept.{Zero, Well, Moved, well-fine, command-kept, finished-kept, length-zeros}
 
 -- ---- the row of refusals
 

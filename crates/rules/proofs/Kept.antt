@@ -5,8 +5,6 @@
 --   Well st                what holds of a state between two calls
 --   Moved s t x            of the objects in s, t has another in place of the one that x names, and no other change
 --   Kept s x               what comes of a command made on the store s is well, and its store has moved so
---   possible-tests possible-by    the tests of a possible session
---   no-chain no-rest none-open     what cannot be held beside a rest, a chain or a job
 --   command-kept           a command
 --   finished-kept          the result of a job
 --
@@ -45,7 +43,7 @@ use Rattle.rules.specs.Book.{book}
 use Rattle.rules.specs.Ber.{berLength, lengthForm, tlv}
 use Rattle.rules.specs.Reference.{referenceAt}
 use Rattle.rules.specs.Store.{workSize, slots, capacity, objectOf, takes, putObject, pinAt, keyPlace, algorithmOf, algorithmOk, wellFormed}
-use Rattle.rules.specs.Session.{State, inSession, withAdmin, chainLength, wholeLength, heldLength, chainOpen, restHeld, challengeHeld, running, jobOpen, authTotal, chainOk, restOk, userKey, userAlgorithm, keyJobOk, jobOk, sessionTests, possible}
+use Rattle.rules.specs.Session.{State, inSession, withAdmin, chainLength, wholeLength, heldLength, chainOpen, restHeld, challengeHeld, running, jobOpen, authTotal, chainOk, restOk, userKey, userAlgorithm, keyJobOk, jobOk, possible}
 use Rattle.rules.specs.Command.{leOf, header, fieldOf, parseLong, parse, known, contactOnly, admit, admitted, check, Wrote, nothing, inSlot, Made, says}
 use Rattle.rules.specs.Held.{calm, dropped, send, fetch, goesOn, based, gathered, heldPiece, closedWork, closed, piece}
 use Rattle.rules.specs.Pin.{Refs, after, Said, refsIn, refsOnto, refs, putRefs, onRefs}
@@ -53,8 +51,9 @@ use Rattle.rules.specs.Objects.{template, select, askedIn, objectTag, gi
 use Rattle.rules.specs.Keys.{keyFits, authEach, contents, replied, opened, authAdmin, authKey, authIn, authForm, authWhole, authPiece, authenticate, resultOk, resultFits, challenged, answered, finished}
 use Rattle.rules.specs.Calls.{ruled, obeyed, command}
 use Rattle.rules.specs.Claims.Lengths.{Bytes}
-use Rattle.rules.proofs.Tests.{either, branch, off, and-left, and-right, and-both, and-end, and-other, each-true, by-order, by-equal}
+use Rattle.rules.proofs.Tests.{either, branch, off, and-left, and-right, and-both, and-end, and-other, by-order, by-equal}
 use Rattle.rules.proofs.Lists.{length-splice, splice-in, splice-after, length-part, getD-part}
+use Rattle.rules.proofs.Possible.{Tests, possible-tests, possible-by, held-fits-by, no-chain, no-rest, none-open}
 use Rattle.rules.proofs.Slots.{Sound, slot-from, object-length, capacity-small, put-before}
 use Rattle.rules.proofs.Refs.{refs-onto}
 use Rattle.rules.proofs.WellFormed.{wf-tests, wf-size, wf-sound}
@@ -95,26 +94,6 @@ pub record Kept (s : List ℕ) (x : Made) : Type 0 where
   pub well : Well (x .after)
   pub moved : Moved s (x .after .store) (x .wrote)
 
--- ---- possible sessions
-
-pub record Tests (ss : Session) : Type 0 where
-  pub chain : chainOk (ss .chain) ≡ true
-  pub rest : restOk (ss .rest) ≡ true
-  pub apart : not (chainOpen (ss .chain) && restHeld (ss .rest)) ≡ true
-  pub alone : not (jobOpen ss && (chainOpen (ss .chain) || restHeld (ss .rest) || challengeHeld (ss .challenge))) ≡ true
-  pub job : jobOk (ss .job) ≡ true
-
-pub possible-tests : (ss : Session) → possible ss ≡ true → Tests ss
-unfolding possible sessionTests
-possible-tests ss e =
-    let h : (k : ℕ) → getD (sessionTests ss) k true ≡ true = each-true (sessionTests ss) e in
-    record { chain = h 0; rest = h 1; apart = h 2; alone = h 3; job = h 4 }
-
-pub possible-by : (ss : Session) → Tests ss → possible ss ≡ true
-unfolding possible sessionTests
-possible-by ss f =
-    and-both (chainOk (ss .chain)) _ (f .chain) (and-both (restOk (ss .rest)) _ (f .rest) (and-both _ _ (f .apart) (and-both _ _ (f .alone) (and-both (jobOk (ss .job)) true (f .job) refl))))
-
 idle-alone : (j : Job) (b : Bool) → j ≡ Idle → (not (running j && b) ≡ true) × (jobOk j ≡ true)
 idle-alone Idle b e = (refl, refl)
 idle-alone (Running key alg le) b e = absurd (true≢false (ap running e))
@@ -154,28 +133,8 @@ well-fine st g e =
 
 -- ---- what is held
 
-pub chain-fits : (c : Chain) → chainOk c ≡ true → chainLength c ≤ workSize
-chain-fits Shut e = omega arith
-chain-fits (Open ins p1 p2 n) e = leb-true n workSize (and-left (leb n workSize) _ e)
-
-pub held-fits-by : (c : Chain) (r : Rest) → chainOk c ≡ true → restOk r ≡ true → not (chainOpen c && restHeld r) ≡ true → chainLength c + wholeLength r ≤ workSize
-held-fits-by Shut Gone a b o = omega arith
-held-fits-by Shut (Left whole k) a b o = omega (arith, leb-true whole workSize (and-left (leb whole workSize) _ b))
-held-fits-by (Open ins p1 p2 n) Gone a b o = omega (arith, chain-fits (Open ins p1 p2 n) a)
-held-fits-by (Open ins p1 p2 n) (Left whole k) a b o = absurd (false≢true o)
-
 pub held-fits : (st : State) → Fine st → heldLength (st .session) ≤ workSize
 held-fits st f = held-fits-by (st .session .chain) (st .session .rest) (f .chain) (f .rest) (f .apart)
-
--- with a rest there is no chain, and with a chain no rest
-pub no-chain : (c : Chain) (r : Rest) → not (chainOpen c && restHeld r) ≡ true → restHeld r ≡ true → chainLength c ≡ 0
-no-chain Shut r o e = refl
-no-chain (Open ins p1 p2 n) r o e = absurd (false≢true (sym (ap not e) ∙ o))
-
-pub no-rest : (c : Chain) (r : Rest) → not (chainOpen c && restHeld r) ≡ true → chainOpen c ≡ true → wholeLength r ≡ 0
-no-rest c Gone o e = refl
-no-rest Shut (Left whole k) o e = absurd (false≢true e)
-no-rest (Open ins p1 p2 n) (Left whole k) o e = absurd (false≢true o)
 
 pub length-zeros : (n : ℕ) → length (zeros n) ≡ n
 unfolding zeros
@@ -780,12 +739,6 @@ module _ (st : State) (f : Fine st) (none : heldLength (st .session) ≡ 0) wher
       branch (Kept (st .store)) _ (λ b. says-kept st f _)
       λ b. either (Kept (st .store)) _ (challenged-kept le r)
       (send-kept st f none le (tlv 0x7C (tlv 0x82 r)) (omega (arith, tlv-short 0x7C (tlv 0x82 r), tlv-short 0x82 r, result-short key alg r (fit b))))
-
--- with a job open nothing is held
-pub none-open : (c : Chain) (r : Rest) (h : Bool) → not (chainOpen c || restHeld r || h) ≡ true → chainLength c + wholeLength r ≡ 0
-none-open Shut Gone h e = refl
-none-open Shut (Left whole k) h e = absurd (false≢true e)
-none-open (Open ins p1 p2 n) r h e = absurd (false≢true e)
 
 finished-by : (st : State) → Well st → (j : Job) → st .session .job ≡ j → (failed : Bool) (r : List ℕ) → (failed ≡ false → resultFits j r ≡ true) → Kept (st .store) (finished st j failed r)
 unfolding finished resultFits

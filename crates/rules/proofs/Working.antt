@@ -52,7 +52,8 @@ use Rattle.rules.specs.Claims.Invariants.{Plain, Each}
 use Rattle.rules.specs.Claims.Working.{objectAnswer, wholeAnswer, resultAnswer, heldBy, heldChecked, heldGranted, heldDecided, heldAfter, ledger, Holds}
 use Rattle.rules.proofs.Tests.{either, branch, on, off}
 use Rattle.rules.proofs.Lists.{take-splice}
-use Rattle.rules.proofs.Kept.{Fine, Well, Tests, possible-tests, well-fine, fine-calm, Starts, based-starts, chain-fits, held-fits-by, no-chain, no-rest, goes-open, none-open}
+use Rattle.rules.proofs.Possible.{Tests, possible-tests, chain-fits, held-fits-by, no-chain, no-rest, none-open}
+use Rattle.rules.proofs.Kept.{Fine, Well, well-fine, fine-calm, Starts, based-starts, goes-open}
 use Rattle.rules.proofs.Invariants.{granted-lets, refused-leaves, call-kept, power-well, start-well, well-sane}
 
 abbrev held : State → List ℕ
