@@ -6,34 +6,34 @@
 --   bare-blank             so all of it is zero behind its first 32 bytes
 --   card-well card-ill     so its store is well formed, and with a byte too many it is not
 --   fixed-fair fixed-well  that of the fixed card is
---   powers-on power-is powered-is    a power-on with a well-formed store: it is granted, what it comes to, and the state after it
+--   power-is powered-is    a power-on with a well-formed store: what it comes to, and the state after it
 --
 -- Assumes nothing.
-use mathlib.Core.Path.{_≡_, refl, ap, sym, _∙_, subst}
-use mathlib.Core.Bool.{Bool, true, false, not, _&&_, false≢true}
+use mathlib.Core.Path.{_≡_, refl, ap, _∙_}
+use mathlib.Core.Bool.{Bool, true, false, _&&_, false≢true}
 use mathlib.Core.List.{List, [], _∷_, _++_}
-use Prim.Native.Nat.{ℕ, suc, _+_, _-_, _*_, _≤_, _<_}
+use Prim.Native.Nat.{ℕ, _+_, _-_, _≤_}
 use native.Mathlib.Omega.{arith}
 use lib.Dec.{ltb, leb, eqb}
 use lib.ListN.{length, getD, length-append}
 use lib.Seq.{getD-append-add}
 use borrow.Author.Tests.{eqb-true, eq-eqb, ltb-true, leb-true, le-leb}
-use Rattle.rules.specs.declared.Permit.the-variants.{Granted}
 use Rattle.rules.specs.declared.Session.{Session}
 use Rattle.rules.specs.Book.{book}
 use Rattle.rules.specs.Bytes.{allTrue, all, sameBytes, part, zeros, be16}
 use Rattle.rules.specs.Reference.{pinForm, referenceOk, referenceAt}
 use Rattle.rules.specs.Store.{storeSize, workSize, slots, capacity, offset, slotLength, pinAt, pukAt, algorithmOk, mark, slotOk, wellFormed}
-use Rattle.rules.specs.Session.{State, state, cleared}
-use Rattle.rules.specs.Calls.{powers, illSession, shortResponse, interrupts, unasked, wrongResult, permit, poweredOn, granted, decided, call}
+use Rattle.rules.specs.Session.{state, cleared}
+use Rattle.rules.specs.Calls.{powers, poweredOn, granted, call}
 use Rattle.rules.specs.Runs.{leaves}
 use Rattle.rules.specs.Claims.Starred.{hex, Card, issued, filled, overlong, storeOf, fixed, fixedCard}
 use Rattle.rules.proofs.Tests.{and-left, and-right, each-true, all-below}
 use Rattle.rules.proofs.Slots.{slot-from}
 use Rattle.rules.proofs.WellFormed.{tests-wf, wf-size}
 use Rattle.rules.proofs.StaysWell.{wf-put}
+use Rattle.rules.proofs.Permits.{power-granted, call-granted}
 use Rattle.rules.proofs.Kept.{length-zeros}
-use Rattle.rules.proofs.Invariants.{zeros-zero, lets-granted}
+use Rattle.rules.proofs.Invariants.{zeros-zero}
 
 -- ---- what is tested of a card
 
@@ -121,15 +121,9 @@ fixed-well = card-well fixedCard refl fixed-fair
 -- ---- power-on
 
 module _ (s w : List ℕ) (ss : Session) (air : Bool) (f : wellFormed s ≡ true) (l : length w ≡ workSize) where
-  pub powers-on : permit (state s w ss) (powers air) ≡ Granted
-  unfolding illSession shortResponse interrupts unasked wrongResult
-  powers-on =
-      lets-granted (state s w ss) (powers air)
-      (record { store = f; session = refl; response = refl; work = l; free = refl; asked = refl; result = refl })
-
   pub power-is : call (state s w ss) (powers air) ≡ poweredOn (state s w ss) air
-  unfolding call decided granted
-  power-is = ap (decided (state s w ss) (powers air)) powers-on
+  unfolding granted
+  power-is = call-granted (state s w ss) (powers air) (power-granted (state s w ss) air f l)
 
   pub powered-is : leaves (call (state s w ss) (powers air)) ≡ state s (zeros workSize) (cleared air)
   unfolding leaves poweredOn

@@ -35,9 +35,10 @@ use Rattle.rules.proofs.Tests.{either, on, off}
 use Rattle.rules.proofs.Lists.{take-splice}
 use Rattle.rules.proofs.Slots.{put-object}
 use Rattle.rules.proofs.WellFormed.{wf-size}
+use Rattle.rules.proofs.Permits.{granted-lets}
 use Rattle.rules.proofs.Possible.{chain-fits}
 use Rattle.rules.proofs.Kept.{Well, Moved, Starts, well-fine, fine-calm, based-starts, put-total}
-use Rattle.rules.proofs.Invariants.{granted-lets, refused-leaves, call-kept}
+use Rattle.rules.proofs.Invariants.{refused-leaves, call-kept}
 use Rattle.rules.proofs.Reading.{word-delivered}
 use Rattle.rules.proofs.Pieces.{Formed, put-form}
 

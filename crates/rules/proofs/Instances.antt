@@ -1,11 +1,11 @@
 -- The premises of the claims over runs can be met (specs/Claims/Instances): each claim applied to a run, its premises computed.
 -- Assumes nothing.
 use mathlib.Core.Path.{_≡_, refl, ap, sym, _∙_, subst}
-use mathlib.Core.Bool.{Bool, true, false, not, _&&_, _||_, true≢false}
+use mathlib.Core.Bool.{Bool, true, false, not, _||_, true≢false}
 use mathlib.Core.List.{List, [], _∷_, _++_}
-use Prim.Native.Nat.{ℕ, zero, suc, _+_, _-_, _≤_, _<_}
+use Prim.Native.Nat.{ℕ, _+_, _-_, _≤_, _<_}
 use native.Mathlib.Omega.{arith}
-use lib.Dec.{ltb, leb, eqb}
+use lib.Dec.{ltb, eqb}
 use lib.ListN.{length, getD, replicate, length-replicate}
 use borrow.Author.Tests.{eqb-true, le-leb, lt-ltb}
 use Rattle.rules.specs.declared.Header.{Header}
@@ -21,14 +21,13 @@ use Rattle.rules.specs.Bytes.{iff, all, allBelow, splice, zeros}
 use Rattle.rules.specs.Book.{book}
 use Rattle.rules.specs.Ber.{tlv}
 use Rattle.rules.specs.Objects.{objectTag}
-use Rattle.rules.specs.Store.{storeSize, workSize, slots, capacity, offset, slotBytes, putObject, wellFormed}
+use Rattle.rules.specs.Store.{storeSize, workSize, capacity, offset, slotBytes, putObject, wellFormed}
 use Rattle.rules.specs.Session.{State, state, cleared, holding, withAdmin, withChallenge, withJob, jobOpen, readable}
 use Rattle.rules.specs.Command.{fieldOf, check, Wrote, nothing, inSlot}
 use Rattle.rules.specs.Keys.{resultFits, finished}
 use Rattle.rules.specs.Calls.{command, Call, powers, sends, illSession, shortResponse, interrupts, unasked, wrongResult, permit, Result, delivered, poweredOn, granted, keptSession, denied, decided, call}
 use Rattle.rules.specs.Runs.{leaves, run, endOf}
-use Rattle.rules.specs.Claims.Starred.{hex, Card, issued, storeOf, fixedCard, fixed, tell, done, wrong, right, printed, asks, makes, reply, first, last}
-use Rattle.rules.specs.Claims.Lengths.{Bytes}
+use Rattle.rules.specs.Claims.Starred.{hex, issued, storeOf, fixedCard, fixed, tell, done, wrong, right, printed, asks, makes, reply, first, last}
 use Rattle.rules.specs.Claims.Words.{checkWords, words, Tells}
 use Rattle.rules.specs.Claims.Invariants.{Plain, Sane}
 use Rattle.rules.specs.Claims.ReadBack.{tagBytesOf, tagList, putField, wordOf, Puts, Pieces, next, refused, Untouched, Ends, Answers, reading, joined, lastWord}
@@ -44,9 +43,10 @@ use Rattle.rules.proofs.StaysWell.{wf-put}
 use Rattle.rules.proofs.Reading.{all-bytes, call-sends}
 use Rattle.rules.proofs.Refusals.{refusals}
 use Rattle.rules.proofs.Words.{status-words}
+use Rattle.rules.proofs.Permits.{lets-granted, power-granted}
 use Rattle.rules.proofs.Kept.{Well}
-use Rattle.rules.proofs.Cards.{fair, bare-blank, card-well, fixed-fair, fixed-well, powers-on, power-is}
-use Rattle.rules.proofs.Invariants.{lets-granted, power-granted, After, powered-well, call-kept, invariants}
+use Rattle.rules.proofs.Cards.{fair, bare-blank, card-well, fixed-fair, fixed-well, power-is}
+use Rattle.rules.proofs.Invariants.{powered-well, call-kept, invariants}
 use Rattle.rules.proofs.Secrecy.{secrecy}
 use Rattle.rules.proofs.ReadBack.{back-again}
 
@@ -155,7 +155,7 @@ on s = state s (zeros workSize) (cleared false)
 module _ (s : List ℕ) (w : wellFormed s ≡ true) where
   granted-on : permit (before s) (powers false) ≡ Granted
   unfolding before
-  granted-on = powers-on s (replicate workSize 0xAA) (cleared true) false w (length-replicate {A = ℕ} workSize 0xAA)
+  granted-on = power-granted (state s (replicate workSize 0xAA) (cleared true)) false w (length-replicate {A = ℕ} workSize 0xAA)
 
   on-is : call (before s) (powers false) ≡ poweredOn (before s) false
   unfolding before
@@ -312,7 +312,7 @@ pieces-end = ap (λ (x : State). endOf x (sends [] [] ∷ last ∷ [])) (first-l
 -- a further power-on
 powered : call after (powers false) ≡ poweredOn after false
 unfolding call decided granted
-powered = ap (decided after (powers false)) (power-granted after (last-leads .well) false)
+powered = ap (decided after (powers false)) (power-granted after false (last-leads .well .wf) (last-leads .well .size))
 
 kept-is : stored ≡ endOf (endOf issuing pieces) (powers false ∷ [])
 unfolding endOf stored after poweredOn leaves

@@ -1,8 +1,5 @@
 -- What stays true over every run from an accepted power-on (specs/Claims/Invariants), and what one call of such a run changes in the objects.
 --
---   Lets st k              no test of the row of refusals stops the call k
---   granted-lets           a call that is granted passes each of them
---   power-granted          a power-on in a state that is well is granted
 --   refused-leaves         a call that is refused leaves the state as it was
 --   call-kept              a call leaves a state that is well, and has moved the objects as its `wrote` says
 --   powered-well           so is the state after a power-on that is granted
@@ -17,7 +14,7 @@ use Prim.Native.Nat.{ℕ, _+_, _-_, _≤_}
 use native.Mathlib.Omega.{arith}
 use lib.ListN.{length, take, getD, length-append, getD-replicate, List·getD-append, List·getD-eq-default}
 use lib.Seq.{length-take-le, ext-getD, getD-append-add, getD-take}
-use borrow.Author.Tests.{eqb-true, eq-eqb, not-false}
+use borrow.Author.Tests.{eq-eqb, not-false}
 use Rattle.rules.specs.declared.Refusal.{Refusal}
 use Rattle.rules.specs.declared.Permit.{Permit}
 use Rattle.rules.specs.declared.Permit.the-variants.{Granted, Denied}
@@ -25,59 +22,18 @@ use Rattle.rules.specs.declared.Session.{Session}
 use Rattle.rules.specs.Bytes.{zeros}
 use Rattle.rules.specs.Store.{workSize, wellFormed}
 use Rattle.rules.specs.Session.{State, state, heldLength, sessionTests, possible}
-use Rattle.rules.specs.Calls.{Call, powers, sends, finishes, illSession, shortResponse, interrupts, unasked, wrongResult, permit, Result, delivered, poweredOn, granted, denied, keptSession, decided, call}
+use Rattle.rules.specs.Calls.{Call, powers, sends, finishes, illSession, interrupts, wrongResult, permit, Result, delivered, poweredOn, granted, denied, keptSession, decided, call}
 use Rattle.rules.specs.Runs.{leaves, endOf}
 use Rattle.rules.specs.Claims.Invariants.{Plain, Each, Sane, Pardoned, Holds}
-use Rattle.rules.proofs.Tests.{branch, off, by-order, and-other}
+use Rattle.rules.proofs.Tests.{branch, by-order, and-other}
 use Rattle.rules.proofs.WellFormed.{wf-tests}
 use Rattle.rules.proofs.StaysWell.{tries}
 use Rattle.rules.proofs.Earned.{call-earned}
+use Rattle.rules.proofs.Permits.{Lets, granted-lets, power-granted, call-denied}
 use Rattle.rules.proofs.Possible.{possible-tests, held-fits-by}
 use Rattle.rules.proofs.Kept.{Zero, Well, Moved, well-fine, command-kept, finished-kept, length-zeros}
 
--- ---- the row of refusals
-
-pub record Lets (st : State) (k : Call) : Type 0 where
-  pub store : wellFormed (st .store) ≡ true
-  pub session : illSession k (st .session) ≡ false
-  pub response : shortResponse k ≡ false
-  pub work : length (st .work) ≡ workSize
-  pub free : interrupts k (st .session) ≡ false
-  pub asked : unasked k (st .session) ≡ false
-  pub result : wrongResult k (st .session) ≡ false
-
-abbrev If : Type 0 → Permit → Type 0
-If A Granted = A
-If A (Denied r) = Unit {0}
-
-row-lets : (st : State) (k : Call) → If (Lets st k) (permit st k)
-unfolding permit
-row-lets st k =
-    branch (If (Lets st k)) _ (λ b. tt)
-    λ b1. branch (If (Lets st k)) _ (λ b. tt)
-    λ b2. branch (If (Lets st k)) _ (λ b. tt)
-    λ b3. branch (If (Lets st k)) _ (λ b. tt)
-    λ b4. branch (If (Lets st k)) _ (λ b. tt)
-    λ b5. branch (If (Lets st k)) _ (λ b. tt)
-    λ b6. branch (If (Lets st k)) _ (λ b. tt)
-    λ b7. record {
-      store = not-false _ b1;
-      session = b2;
-      response = b3;
-      work = eqb-true _ _ (not-false _ b4);
-      free = b5;
-      asked = b6;
-      result = b7;
-    }
-
-pub granted-lets : (st : State) (k : Call) → permit st k ≡ Granted → Lets st k
-granted-lets st k e = subst (If (Lets st k)) e (row-lets st k)
-
-pub lets-granted : (st : State) (k : Call) → Lets st k → permit st k ≡ Granted
-unfolding permit
-lets-granted st k l =
-    off _ _ _ (ap not (l .store)) ∙ off _ _ _ (l .session) ∙ off _ _ _ (l .response) ∙ off _ _ _ (ap not (eq-eqb _ _ (l .work)))
-    ∙ off _ _ _ (l .free) ∙ off _ _ _ (l .asked) ∙ off _ _ _ (l .result)
+-- ---- refusals
 
 -- a refusal in a state that is well is none of 1, 2 and 4
 abbrev Pardons : Permit → Type 0
@@ -101,11 +57,6 @@ well-pardons st g k =
     λ b5. branch Pardons _ (λ b. tt)
     λ b6. branch Pardons _ (λ b. tt)
     λ b7. tt
-
-pub power-granted : (st : State) → Well st → (air : Bool) → permit st (powers air) ≡ Granted
-unfolding illSession shortResponse interrupts unasked wrongResult
-power-granted st g air =
-    lets-granted st (powers air) (record { store = g .wf; session = refl; response = refl; work = g .size; free = refl; asked = refl; result = refl })
 
 -- ---- one call
 
@@ -151,14 +102,13 @@ Yes (Denied r) = ⊥
 
 denied-leaves : (st : State) → Well st → (k : Call) (r : Refusal) → permit st k ≡ Denied r → leaves (denied st k r) ≡ st
 unfolding denied leaves keptSession
-denied-leaves st g (powers air) r e = absurd (subst Yes (sym (power-granted st g air) ∙ e) tt)
+denied-leaves st g (powers air) r e = absurd (subst Yes (sym (power-granted st air (g .wf) (g .size)) ∙ e) tt)
 denied-leaves st g (sends resp c) r e = refl
 denied-leaves st g (finishes resp failed x) r e = refl
 
 -- a refused call leaves the state as it was
 pub refused-leaves : (st : State) → Well st → (k : Call) (r : Refusal) → permit st k ≡ Denied r → leaves (call st k) ≡ st
-unfolding call decided
-refused-leaves st g k r e = ap (λ (p : Permit). leaves (decided st k p)) e ∙ denied-leaves st g k r e
+refused-leaves st g k r e = ap leaves (call-denied st k r e) ∙ denied-leaves st g k r e
 
 denied-kept : (st : State) → Well st → (k : Call) (r : Refusal) → permit st k ≡ Denied r → After (st .store) (denied st k r)
 unfolding denied

@@ -7,6 +7,7 @@ pub mod Refs
 pub mod Slots
 pub mod WellFormed
 pub mod StaysWell
+pub mod Permits
 pub mod Possible
 pub mod Kept
 pub mod Earned

@@ -34,8 +34,9 @@ use Rattle.rules.specs.Runs.{leaves, run}
 use Rattle.rules.specs.Claims.Lengths.{Bytes}
 use Rattle.rules.specs.Claims.ReadBack.{Le, absent, byte, leBytes, wanted, LeOk, tagBytesOf, tagList, gets, more, dataOf, wordOf, joined, lastWord, Ask, AskOk, AsksOk, reading, Ends, Answers}
 use Rattle.rules.proofs.Tests.{on, off, and-left, and-right, at-each, or-other}
+use Rattle.rules.proofs.Permits.{lets-granted}
 use Rattle.rules.proofs.Kept.{Well, object-short}
-use Rattle.rules.proofs.Invariants.{lets-granted, call-kept}
+use Rattle.rules.proofs.Invariants.{call-kept}
 
 -- ---- a command that is not refused
 

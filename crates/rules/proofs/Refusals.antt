@@ -1,15 +1,9 @@
 -- A refused call changes nothing (specs/Claims/Refusals).
 -- Assumes nothing.
 use mathlib.Core.Path.{_≡_, ap}
-use Rattle.rules.specs.declared.Refusal.{Refusal}
-use Rattle.rules.specs.declared.Permit.the-variants.{Denied}
-use Rattle.rules.specs.Session.{State}
-use Rattle.rules.specs.Calls.{Call, Result, permit, denied, decided, call}
+use Rattle.rules.specs.Calls.{Result, denied, call}
 use Rattle.rules.specs.Claims.Refusals.{Holds}
-
-pub call-denied : (st : State) (k : Call) (r : Refusal) → permit st k ≡ Denied r → call st k ≡ denied st k r
-unfolding call decided
-call-denied st k r e = ap (decided st k) e
+use Rattle.rules.proofs.Permits.{call-denied}
 
 pub refusals : Holds
 unfolding denied

@@ -1,6 +1,6 @@
 -- A found card tells its finder nothing (specs/Claims/Secrecy).
 -- Assumes nothing.
-use mathlib.Core.Path.{_≡_, refl, ap, sym, subst}
+use mathlib.Core.Path.{_≡_, refl, sym, subst}
 use mathlib.Core.Bool.{Bool, true, false}
 use mathlib.Core.List.{List, [], _∷_}
 use Prim.Native.Nat.{ℕ}
@@ -16,7 +16,7 @@ use Rattle.rules.specs.Calls.{Call, powers, sends, finishes, permit, Res
 use Rattle.rules.specs.Runs.{leaves, run}
 use Rattle.rules.specs.Claims.Secrecy.{noEqual, NoneEqual, Same, AllSame, Holds}
 use Rattle.rules.proofs.Quiet.{Pair, Twin, twin, tries-same, command-quiet, finished-quiet}
-use Rattle.rules.proofs.Invariants.{granted-lets}
+use Rattle.rules.proofs.Permits.{granted-lets, call-granted}
 
 -- two results that show the same, with stores that are a pair
 data Shows : Result → Result → Type 0 where
@@ -87,21 +87,16 @@ runs-same [] s t w ss pn k m n = tt
 runs-same (c ∷ ks) s t w ss pn k m n =
     one-more ks (λ s t w ss pn k m n. runs-same ks s t w ss pn k m n) (call (state s w ss) c) (call (state t w ss) c) (call-shows s t w ss pn k c (m .0) (n .0)) (m .1) (n .1)
 
--- a power-on that is granted, whatever session there was before
-powers-on : (s w : List ℕ) (ss : Session) (air : Bool) → permit (state s w ss) (powers air) ≡ Granted → call (state s w ss) (powers air) ≡ poweredOn (state s w ss) air
-unfolding call decided granted
-powers-on s w ss air e = ap (decided (state s w ss) (powers air)) e
-
 power-shows : (s t w : List ℕ) (ss : Session) (air : Bool) → Pair s t → Shows (poweredOn (state s w ss) air) (poweredOn (state t w ss) air)
 unfolding poweredOn
 power-shows s t w ss air k = shows _ _ _ _ _ _ s t refl k
 
 pub secrecy : Holds
-unfolding run
+unfolding run granted
 secrecy s t w ss air e f al ks m n =
     let k : Pair s t = record { alike = al; first = granted-lets (state s w ss) (powers air) e .store; second = granted-lets (state t w ss) (powers air) f .store } in
-    let p : call (state s w ss) (powers air) ≡ poweredOn (state s w ss) air = powers-on s w ss air e in
-    let q : call (state t w ss) (powers air) ≡ poweredOn (state t w ss) air = powers-on t w ss air f in
+    let p : call (state s w ss) (powers air) ≡ poweredOn (state s w ss) air = call-granted (state s w ss) (powers air) e in
+    let q : call (state t w ss) (powers air) ≡ poweredOn (state t w ss) air = call-granted (state t w ss) (powers air) f in
     one-more ks (runs-same ks) (call (state s w ss) (powers air)) (call (state t w ss) (powers air))
     (subst (λ (x : Result). Shows x (call (state t w ss) (powers air))) (sym p) (subst (λ (y : Result). Shows (poweredOn (state s w ss) air) y) (sym q) (power-shows s t w ss air k)))
     (m .1) (n .1)

@@ -29,7 +29,8 @@ use Rattle.rules.proofs.Tests.{and-left, and-right, and-both}
 use Rattle.rules.proofs.Reading.{all-bytes}
 use Rattle.rules.proofs.Kept.{Well}
 use Rattle.rules.proofs.Invariants.{power-well, call-kept}
-use Rattle.rules.proofs.Cards.{whole, fair, card-well, card-ill, powers-on, powered-is}
+use Rattle.rules.proofs.Permits.{power-granted}
+use Rattle.rules.proofs.Cards.{whole, fair, card-well, card-ill, powered-is}
 
 -- ---- the row of refusals
 
@@ -120,7 +121,7 @@ quickly-follows air c ls e =
     let ss : Session = cleared (not air) in
     let v : wellFormed s ≡ true = card-well c (and-left (whole c) _ f) (and-right (whole c) _ f) in
     let l : length w ≡ workSize = length-replicate {A = ℕ} workSize 0xAA in
-    runs-follows ls _ (power-well s w ss air (powers-on s w ss air v l))
+    runs-follows ls _ (power-well s w ss air (power-granted (state s w ss) air v l))
     (subst (λ (x : State). runs x ls ≡ true) (sym (powered-is s w ss air v l)) (and-right (whole c && fair c) _ e))
 
 unfoldable quick : Row → Bool

@@ -46,15 +46,16 @@ use Rattle.rules.specs.Held.{calm, dropped, send, fetch, goesOn, based, 
 use Rattle.rules.specs.Pin.{Said, putRefs, onRefs}
 use Rattle.rules.specs.Objects.{template, select, askedIn, giveObject, getSlot, getAsked, getData, getRest, getResponse, stored, putSlot, putWhole, putPiece, putData}
 use Rattle.rules.specs.Keys.{replied, opened, authAdmin, authKey, authIn, authForm, authWhole, authPiece, authenticate, challenged, answered, finished}
-use Rattle.rules.specs.Calls.{ruled, obeyed, command, Call, powers, sends, finishes, Result, interrupts, unasked, permit, delivered, poweredOn, granted, decided, call}
+use Rattle.rules.specs.Calls.{ruled, obeyed, command, Call, powers, sends, finishes, Result, interrupts, unasked, permit, delivered, poweredOn, granted, call}
 use Rattle.rules.specs.Runs.{leaves, endOf}
 use Rattle.rules.specs.Claims.Invariants.{Plain, Each}
 use Rattle.rules.specs.Claims.Working.{objectAnswer, wholeAnswer, resultAnswer, heldBy, heldChecked, heldGranted, heldDecided, heldAfter, ledger, Holds}
 use Rattle.rules.proofs.Tests.{either, branch, on, off}
 use Rattle.rules.proofs.Lists.{take-splice}
+use Rattle.rules.proofs.Permits.{granted-lets, call-granted}
 use Rattle.rules.proofs.Possible.{Tests, possible-tests, chain-fits, held-fits-by, no-chain, no-rest, none-open}
 use Rattle.rules.proofs.Kept.{Fine, Well, well-fine, fine-calm, Starts, based-starts, goes-open}
-use Rattle.rules.proofs.Invariants.{granted-lets, refused-leaves, call-kept, power-well, start-well, well-sane}
+use Rattle.rules.proofs.Invariants.{refused-leaves, call-kept, power-well, start-well, well-sane}
 
 abbrev held : State → List ℕ
 held st = take (heldLength (st .session)) (st .work)
@@ -291,10 +292,6 @@ unfolding calm heldBy
 calm-checked st ss c f (Failed sw) = refl
 calm-checked st ss c f (Passed h) = refl
 
-granted-call : (st : State) (k : Call) → permit st k ≡ Granted → call st k ≡ granted st k
-unfolding call decided
-granted-call st k p = ap (decided st k) p
-
 module _ (st : State) (g : Well st) (f : List ℕ) (e : held st ≡ f) where
   granted-holds : (k : Call) → Plain k → permit st k ≡ Granted → held (leaves (granted st k)) ≡ heldGranted st (leaves (granted st k) .session) f k
   unfolding granted delivered leaves poweredOn command calm interrupts unasked
@@ -311,7 +308,7 @@ module _ (st : State) (g : Well st) (f : List ℕ) (e : held st ≡ f) where
     where
       go : (p : Permit) → permit st k ≡ p → held (leaves (call st k)) ≡ heldDecided st k f (permit st k)
       go Granted q =
-          subst (λ (x : Result). held (leaves x) ≡ heldGranted st (leaves x .session) f k) (sym (granted-call st k q)) (granted-holds k b q)
+          subst (λ (x : Result). held (leaves x) ≡ heldGranted st (leaves x .session) f k) (sym (call-granted st k q)) (granted-holds k b q)
           ∙ sym (ap (heldDecided st k f) q)
       go (Denied r) q = ap held (refused-leaves st g k r q) ∙ e ∙ sym (ap (heldDecided st k f) q)
 
@@ -331,7 +328,7 @@ module _ (s w : List ℕ) (ss : Session) (air : Bool) (p : permit (state s w ss)
 
   powered-holds : held (leaves (call first (powers air))) ≡ heldAfter first (powers air) []
   unfolding heldAfter granted poweredOn leaves
-  powered-holds = ap (λ (x : Result). held (leaves x)) (granted-call first (powers air) p) ∙ sym (ap (heldDecided first (powers air) []) p)
+  powered-holds = ap (λ (x : Result). held (leaves x)) (call-granted first (powers air) p) ∙ sym (ap (heldDecided first (powers air) []) p)
 
   end-holds : held end ≡ ledger first [] (powers air ∷ ks)
   unfolding endOf ledger

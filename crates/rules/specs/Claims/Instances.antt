@@ -10,11 +10,10 @@
 --
 -- The premises of Working are those of Invariants. Assumes nothing.
 use mathlib.Core.Path.{_≡_}
-use mathlib.Core.Bool.{Bool, true, false}
+use mathlib.Core.Bool.{true, false}
 use mathlib.Core.List.{List, [], _∷_}
 use Prim.Native.Nat.{ℕ}
 use lib.ListN.{replicate}
-use Rattle.rules.specs.declared.Session.{Session}
 use Rattle.rules.specs.declared.Refusal.the-variants.{WrongWork}
 use Rattle.rules.specs.Bytes.{zeros}
 use Rattle.rules.specs.Store.{workSize, putObject}

@@ -23,7 +23,6 @@ use lib.ListN.{length, take, drop, replicate}
 use Rattle.rules.specs.declared.Chain.the-variants.{Open}
 use Rattle.rules.specs.declared.Rest.the-variants.{Gone}
 use Rattle.rules.specs.declared.Session.{Session}
-use Rattle.rules.specs.declared.Refusal.{Refusal}
 use Rattle.rules.specs.declared.Answer.{Answer}
 use Rattle.rules.specs.declared.Answer.the-variants.{PoweredOn, Response, JobOpened, Refused}
 use Rattle.rules.specs.Bytes.{allTrue, allBelow, sameBytes, zeros, word}
@@ -31,7 +30,7 @@ use Rattle.rules.specs.Ber.{berLength}
 use Rattle.rules.specs.Reference.{pinForm}
 use Rattle.rules.specs.Store.{storeSize, workSize, offset, capacity, putObject}
 use Rattle.rules.specs.Session.{State, state, cleared, holding, withAdmin}
-use Rattle.rules.specs.Calls.{Call, powers, sends, finishes, refusalNumber, Outcome, Result, call}
+use Rattle.rules.specs.Calls.{Call, powers, sends, finishes, refusalNumber, Outcome, call}
 use Rattle.rules.specs.Runs.{leaves}
 
 infix 80 _⇒_
