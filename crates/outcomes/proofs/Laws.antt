@@ -3,7 +3,7 @@
 --   marked                 a character, and the hex of a row behind it
 --   kind-length session-length sum-length sums-length    how long each part is
 --   take-few               a start of a row is not longer
---   sums-parts line-parts  the parts, one behind the other
+--   sums-parts line-ends line-parts    the parts, one behind the other, and where they end
 --   small-number by-answer a refusal's number; the text of an answer that is told by its form
 --
 -- Assumes nothing.
@@ -72,6 +72,11 @@ module _ (s w p : List ℕ) where
       let m : length (sumText s ++ sumText w) ≡ length (sumText s) + length (sumText w) = length-append (sumText s) (sumText w) in
       let q = wrote-then d x₁ x₂ (sumText s) (sumText w) at n₁ n₂ e₁ e₂ (omega (arith, l₁)) in
       wrote-then d x₂ x₃ (sumText s ++ sumText w) (sumText p) at n₂ n₃ q e₃ (omega (arith, l₁, l₂))
+
+  -- where the parts end: the buffer has room for what follows
+  pub line-ends : (r : Reply) (n₁ n₂ n₃ : ℕ) → n₁ ≡ length (kind (r .answer) p) → n₂ ≡ n₁ + length (sessionText (r .session)) → n₃ ≡ n₂ + length (sumsText s w p)
+      → n₃ ≤ 2 * length p + 169
+  line-ends r n₁ n₂ n₃ a b c = omega (arith, kind-length (r .answer) p, session-length (r .session), sums-length)
 
   pub line-parts : (r : Reply) (d x₁ x₂ x₃ x₄ : List ℕ) (n₁ n₂ n₃ : ℕ) → 2 * length p + 200 ≤ length d
       → (n₁ ≡ length (kind (r .answer) p)) × (x₁ ≡ splice d 0 (kind (r .answer) p))

@@ -2,7 +2,7 @@
 -- Assumes nothing.
 use denote.Ref.{now}
 use native.Mathlib.Omega.{arith}
-use Rattle.outcomes.proofs.Laws.{kind-length, session-length, sums-length, line-parts}
+use Rattle.outcomes.proofs.Laws.{kind-length, session-length, line-ends, line-parts}
 use borrow.Author.Needs.{needs}
 use Rattle.outcomes.proofs.write.Statement.{statement}
 use Rattle.outcomes.proofs.write.Tie as tie
@@ -31,19 +31,8 @@ put-byte-requires c κs =
     let kind = session .before .before .before .before in
     let first = kind .before .before .before .before .before .before .before in
     let a = first .args in
-    omega (
-      arith,
-      kind-length (a .r .answer) (now (a .resp)),
-      session-length (a .r .session),
-      sums-length (now (a .store)) (now (a .work)) (now (a .resp)),
-      kind .write-kind .ensures .0,
-      session .write-session .ensures .0,
-      sums .write-sums .ensures .0,
-      kind .write-kind .kept,
-      session .write-session .kept,
-      sums .write-sums .kept,
-      first .pre,
-    )
+    let end = line-ends (now (a .store)) (now (a .work)) (now (a .resp)) (a .r) _ _ _ (kind .write-kind .ensures .0) (session .write-session .ensures .0) (sums .write-sums .ensures .0) in
+    omega (arith, end, kind .write-kind .kept, session .write-session .kept, sums .write-sums .kept, first .pre)
 
 add-result : tie.Need-add-result
 add-result c =
@@ -52,17 +41,8 @@ add-result c =
     let kind = session .before .before .before .before in
     let first = kind .before .before .before .before .before .before .before in
     let a = first .args in
-    omega (
-      arith,
-      kind-length (a .r .answer) (now (a .resp)),
-      session-length (a .r .session),
-      sums-length (now (a .store)) (now (a .work)) (now (a .resp)),
-      kind .write-kind .ensures .0,
-      session .write-session .ensures .0,
-      sums .write-sums .ensures .0,
-      first .pre,
-      first .good,
-    )
+    let end = line-ends (now (a .store)) (now (a .work)) (now (a .resp)) (a .r) _ _ _ (kind .write-kind .ensures .0) (session .write-session .ensures .0) (sums .write-sums .ensures .0) in
+    omega (arith, end, first .pre, first .good)
 
 same-length : tie.Need-same-length
 same-length c = search needs

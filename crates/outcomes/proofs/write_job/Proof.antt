@@ -29,10 +29,8 @@ first-requires c κs = search needs
 
 write-marked-requires-2 : tie.Need-write-marked-requires-2
 write-marked-requires-2 c κs =
-    let c4 = c .before .before .before .before in
-    let c13 = c4 .before .before .before .before .before .before .before .before .before in
-    let a = c13 .args in
-    omega (arith, ap length (c .first .ensures), take-few (a .len) (now (a .resp)), c4 .write-marked .ensures .0, c13 .pre)
+    let a = c .before .before .before .before .before .before .before .before .before .before .before .before .before .args in
+    omega (arith, ap length (c .first .ensures), take-few (a .len) (now (a .resp)), c .before .before .before .before .write-marked .ensures .0, c .before .before .before .before .before .before .before .before .before .before .before .before .before .pre)
 
 same-length : tie.Need-same-length
 same-length c = search needs
@@ -40,22 +38,17 @@ same-length c = search needs
 returns : tie.Need-returns
 unfolding kind
 returns c =
-    let c2 = c .before .before in
-    let c3 = c2 .before in
-    let c7 = c3 .before .before .before .before in
-    let c12 = c7 .before .before .before .before .before in
-    let c16 = c12 .before .before .before .before in
-    let a = c16 .args in
+    let a = c .before .before .before .before .before .before .before .before .before .before .before .before .before .before .before .before .args in
     let d = now (a .out) in
-    let w = c7 .write-marked in
-    let z = c2 .write-marked2 in
-    let e = c3 .first .ensures in
+    let w = c .before .before .before .before .before .before .before .write-marked in
+    let z = c .before .before .write-marked2 in
+    let e = c .before .before .before .first .ensures in
     let u : List ℕ = 74 ∷ (32 ∷ hexOf (a .key ∷ a .alg ∷ [])) in
     let v : List ℕ = 58 ∷ hexOf (take (a .len) (now (a .resp))) in
-    let p = marked d _ (w .last .0) (32 ∷ hexOf (a .key ∷ a .alg ∷ [])) 0 74 (w .result) (omega (arith, c16 .pre)) (c12 .put-byte .ensures) (w .ensures) in
+    let p = marked d _ (w .last .0) (32 ∷ hexOf (a .key ∷ a .alg ∷ [])) 0 74 (w .result) (omega (arith, c .before .before .before .before .before .before .before .before .before .before .before .before .before .before .before .before .pre)) (c .before .before .before .before .before .before .before .before .before .before .before .before .put-byte .ensures) (w .ensures) in
     let q : (z .result ≡ w .result + length v) × (z .last .0 ≡ splice (w .last .0) (w .result) v) =
     (z .ensures .0 ∙ ap (λ (s : List ℕ). w .result + length (58 ∷ hexOf s)) e, z .ensures .1 ∙ ap (λ (s : List ℕ). splice (w .last .0) (w .result) (58 ∷ hexOf s)) e) in
-    let t = wrote-then d (w .last .0) (z .last .0) u v 0 (w .result) (z .result) p q (omega (arith, c16 .pre)) in
+    let t = wrote-then d (w .last .0) (z .last .0) u v 0 (w .result) (z .result) p q (omega (arith, c .before .before .before .before .before .before .before .before .before .before .before .before .before .before .before .before .pre)) in
     (omega (arith, t .0), t .1)
 
 pub write-job-spec : {M : Type 1} → statement M

@@ -81,13 +81,9 @@ same-length-4 c = search needs
 returns-4 : tie.Need-returns-4
 unfolding kind
 returns-4 c =
-    let c2 = c .before .before in
-    let c5 = c2 .before .before .before in
-    let c7 = c5 .before .before in
-    let c11 = c7 .before .before .before .before in
-    let a = c11 .args in
-    by-answer (now (a .resp)) (now (a .out)) _ 3 (c7 .a3 .given .1)
-    (refl, c2 .put2 .ensures ∙ ap (λ (n : ℕ). splice (now (a .out)) 0 (78 ∷ 32 ∷ (48 + n) ∷ [])) (c5 .number .ensures))
+    let a = c .before .before .before .before .before .before .before .before .before .before .before .args in
+    by-answer (now (a .resp)) (now (a .out)) _ 3 (c .before .before .before .before .before .before .before .a3 .given .1)
+    (refl, c .before .before .put2 .ensures ∙ ap (λ (n : ℕ). splice (now (a .out)) 0 (78 ∷ 32 ∷ (48 + n) ∷ [])) (c .before .before .before .before .before .number .ensures))
 
 pub write-kind-spec : {M : Type 1} → statement M
 write-kind-spec =

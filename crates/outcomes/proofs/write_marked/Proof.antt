@@ -23,12 +23,9 @@ same-length c = search needs
 
 returns : tie.Need-returns
 returns c =
-    let c2 = c .before .before in
-    let c6 = c2 .before .before .before .before in
-    let c10 = c6 .before .before .before .before in
-    let a = c10 .args in
-    let w = c2 .write-hex in
-    marked (now (a .out)) _ _ (hexOf (now (a .s))) (a .at) (a .mark) _ (omega (arith, c10 .pre)) (c6 .put-byte .ensures)
+    let a = c .before .before .before .before .before .before .before .before .before .before .args in
+    let w = c .before .before .write-hex in
+    marked (now (a .out)) _ _ (hexOf (now (a .s))) (a .at) (a .mark) _ (omega (arith, c .before .before .before .before .before .before .before .before .before .before .pre)) (c .before .before .before .before .before .before .put-byte .ensures)
     (omega (arith, w .ensures .0, length-hex (now (a .s))), w .ensures .1)
 
 pub write-marked-spec : {M : Type 1} → statement M

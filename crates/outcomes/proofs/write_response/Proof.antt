@@ -31,15 +31,11 @@ same-length c = search needs
 returns : tie.Need-returns
 unfolding kind
 returns c =
-    let c2 = c .before .before in
-    let c3 = c2 .before in
-    let c7 = c3 .before .before .before .before in
-    let c11 = c7 .before .before .before .before in
-    let a = c11 .args in
-    let w = c2 .write-marked in
-    let e = c3 .first .ensures in
-    let p = marked (now (a .out)) (c7 .put-byte .last .0) (w .last .0) (32 ∷ hexOf (take (a .len) (now (a .resp)))) 0 82 (w .result) (omega (arith, c11 .pre)) (c7 .put-byte .ensures)
-    (w .ensures .0 ∙ ap (λ (s : List ℕ). 1 + length (32 ∷ hexOf s)) e, w .ensures .1 ∙ ap (λ (s : List ℕ). splice (c7 .put-byte .last .0) 1 (32 ∷ hexOf s)) e) in
+    let a = c .before .before .before .before .before .before .before .before .before .before .before .args in
+    let w = c .before .before .write-marked in
+    let e = c .before .before .before .first .ensures in
+    let p = marked (now (a .out)) (c .before .before .before .before .before .before .before .put-byte .last .0) (w .last .0) (32 ∷ hexOf (take (a .len) (now (a .resp)))) 0 82 (w .result) (omega (arith, c .before .before .before .before .before .before .before .before .before .before .before .pre)) (c .before .before .before .before .before .before .before .put-byte .ensures)
+    (w .ensures .0 ∙ ap (λ (s : List ℕ). 1 + length (32 ∷ hexOf s)) e, w .ensures .1 ∙ ap (λ (s : List ℕ). splice (c .before .before .before .before .before .before .before .put-byte .last .0) 1 (32 ∷ hexOf s)) e) in
     (omega (arith, p .0), p .1)
 
 pub write-response-spec : {M : Type 1} → statement M

@@ -31,15 +31,11 @@ same-length c = search needs
 returns : tie.Need-returns
 unfolding sumText
 returns c =
-    let c2 = c .before .before in
-    let c3 = c2 .before in
-    let c7 = c3 .before .before .before .before in
-    let c11 = c7 .before .before .before .before in
-    let a = c11 .args in
-    let w = c2 .write-decimal in
-    let e = c3 .sum .ensures in
-    marked (now (a .out)) _ _ (decimalOf 10 (sumOf (now (a .s)))) (a .at) 32 _ (omega (arith, c11 .pre)) (c7 .put-byte .ensures)
-    (w .ensures .0 ∙ ap (λ (n : ℕ). a .at + 1 + length (decimalOf 10 n)) e, w .ensures .1 ∙ ap (λ (n : ℕ). splice (c7 .put-byte .last .0) (a .at + 1) (decimalOf 10 n)) e)
+    let a = c .before .before .before .before .before .before .before .before .before .before .before .args in
+    let w = c .before .before .write-decimal in
+    let e = c .before .before .before .sum .ensures in
+    marked (now (a .out)) _ _ (decimalOf 10 (sumOf (now (a .s)))) (a .at) 32 _ (omega (arith, c .before .before .before .before .before .before .before .before .before .before .before .pre)) (c .before .before .before .before .before .before .before .put-byte .ensures)
+    (w .ensures .0 ∙ ap (λ (n : ℕ). a .at + 1 + length (decimalOf 10 n)) e, w .ensures .1 ∙ ap (λ (n : ℕ). splice (c .before .before .before .before .before .before .before .put-byte .last .0) (a .at + 1) (decimalOf 10 n)) e)
 
 pub write-sum-spec : {M : Type 1} → statement M
 write-sum-spec =

@@ -37,25 +37,16 @@ same-requires c κs = search needs
 returns-2 : tie.Need-returns-2
 unfolding sessionIn
 returns-2 c =
-    let c1 = c .before in
-    let c4 = c1 .before .before .before in
-    let c6 = c4 .before .before in
-    let c9 = c6 .before .before .before in
-    let b = now (c9 .args .b) in
-    let e = c1 .same .ensures ∙ ap (λ (x : List ℕ). sameBytes x b) (c4 .pack .ensures ∙ ap packed (c6 .unpack .ensures)) in
+    let b = now (c .before .before .before .before .before .before .before .before .before .args .b) in
+    let e = c .before .same .ensures ∙ ap (λ (x : List ℕ). sameBytes x b) (c .before .before .before .before .pack .ensures ∙ ap packed (c .before .before .before .before .before .before .unpack .ensures)) in
     sym (off _ _ _ (and-off-right (eqb (length b) 64) _ (fails e (c .if2 .taken))))
 
 returns-3 : tie.Need-returns-3
 unfolding sessionIn
 returns-3 c =
-    let c1 = c .before in
-    let c4 = c1 .before .before .before in
-    let c6 = c4 .before .before in
-    let c7 = c6 .before in
-    let c9 = c7 .before .before in
-    let b = now (c9 .args .b) in
-    let e = c1 .same .ensures ∙ ap (λ (x : List ℕ). sameBytes x b) (c4 .pack .ensures ∙ ap packed (c6 .unpack .ensures)) in
-    ap Is (c6 .unpack .ensures) ∙ sym (on _ _ _ (and-both (eqb (length b) 64) _ (eq-eqb _ _ (c7 .if1 .left)) (passes e (c .if2 .left))))
+    let b = now (c .before .before .before .before .before .before .before .before .before .args .b) in
+    let e = c .before .same .ensures ∙ ap (λ (x : List ℕ). sameBytes x b) (c .before .before .before .before .pack .ensures ∙ ap packed (c .before .before .before .before .before .before .unpack .ensures)) in
+    ap Is (c .before .before .before .before .before .before .unpack .ensures) ∙ sym (on _ _ _ (and-both (eqb (length b) 64) _ (eq-eqb _ _ (c .before .before .before .before .before .before .before .if1 .left)) (passes e (c .if2 .left))))
 
 pub session-in-spec : {M : Type 1} → statement M
 session-in-spec =

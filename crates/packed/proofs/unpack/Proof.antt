@@ -28,14 +28,7 @@ job-in-requires c κs = search needs
 
 returns : tie.Need-returns
 unfolding unpacked
-returns c =
-    let c1 = c .before in
-    let c2 = c1 .before in
-    let c3 = c2 .before in
-    let c4 = c3 .before in
-    let c5 = c4 .before in
-    let c6 = c5 .before in
-    cc (c6 .flag-at .ensures, c5 .flag-at2 .ensures, c4 .flag-at3 .ensures, c3 .chain-in .ensures, c2 .rest-in .ensures, c1 .challenge-in .ensures, c .job-in .ensures)
+returns c = cc (c .before .before .before .before .before .before .flag-at .ensures, c .before .before .before .before .before .flag-at2 .ensures, c .before .before .before .before .flag-at3 .ensures, c .before .before .before .chain-in .ensures, c .before .before .rest-in .ensures, c .before .challenge-in .ensures, c .job-in .ensures)
 
 pub unpack-spec : {M : Type 1} → statement M
 unpack-spec =

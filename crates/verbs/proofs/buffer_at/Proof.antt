@@ -45,24 +45,14 @@ add-t22 c = search needs
 returns-3 : tie.Need-returns-3
 unfolding bufferAt
 returns-3 c =
-    let c1 = c .before in
-    let c3 = c1 .before .before in
-    let c4 = c3 .before in
-    let c6 = c4 .before .before in
-    let c7 = c6 .before in
-    sym (off _ _ _ (sym (c7 .starts .ensures) ∙ c6 .if1 .left) ∙ off _ _ _ (sym (c4 .starts2 .ensures) ∙ c3 .if2 .left)
-    ∙ on _ _ _ (sym (c1 .starts3 .ensures) ∙ c .if3 .taken))
+    sym (off _ _ _ (sym (c .before .before .before .before .before .before .before .starts .ensures) ∙ c .before .before .before .before .before .before .if1 .left) ∙ off _ _ _ (sym (c .before .before .before .before .starts2 .ensures) ∙ c .before .before .before .if2 .left)
+    ∙ on _ _ _ (sym (c .before .starts3 .ensures) ∙ c .if3 .taken))
 
 returns-4 : tie.Need-returns-4
 unfolding bufferAt
 returns-4 c =
-    let c1 = c .before in
-    let c3 = c1 .before .before in
-    let c4 = c3 .before in
-    let c6 = c4 .before .before in
-    let c7 = c6 .before in
-    sym (off _ _ _ (sym (c7 .starts .ensures) ∙ c6 .if1 .left) ∙ off _ _ _ (sym (c4 .starts2 .ensures) ∙ c3 .if2 .left)
-    ∙ off _ _ _ (sym (c1 .starts3 .ensures) ∙ c .if3 .left))
+    sym (off _ _ _ (sym (c .before .before .before .before .before .before .before .starts .ensures) ∙ c .before .before .before .before .before .before .if1 .left) ∙ off _ _ _ (sym (c .before .before .before .before .starts2 .ensures) ∙ c .before .before .before .if2 .left)
+    ∙ off _ _ _ (sym (c .before .starts3 .ensures) ∙ c .if3 .left))
 
 pub buffer-at-spec : {M : Type 1} → statement M
 buffer-at-spec =

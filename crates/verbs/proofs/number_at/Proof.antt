@@ -52,13 +52,8 @@ is-figure-requires-2 c κs = tt
 
 returns-4 : tie.Need-returns-4 Inv-loop μ-loop
 returns-4 c =
-    let c1 = c .before in
-    let c2 = c1 .before in
-    let c4 = c2 .before .before in
-    let c5 = c4 .before in
-    let c11 = c5 .before .before .before .before .before .before in
-    let l = c5 .loop in
-    sym (l .inv .2 ∙ scan-at (now (c11 .args .l)) (l .v) (l .i) (c4 .loop-test .taken) ∙ off _ _ _ (ne-eqb _ _ (c2 .if3 .left)) ∙ off _ _ _ (fails (c1 .is-figure2 .ensures) (c .if4 .taken)))
+    let l = c .before .before .before .before .before .loop in
+    sym (l .inv .2 ∙ scan-at (now (c .before .before .before .before .before .before .before .before .before .before .before .args .l)) (l .v) (l .i) (c .before .before .before .before .loop-test .taken) ∙ off _ _ _ (ne-eqb _ _ (c .before .before .if3 .left)) ∙ off _ _ _ (fails (c .before .is-figure2 .ensures) (c .if4 .taken)))
 
 grown-requires : tie.Need-grown-requires Inv-loop μ-loop
 grown-requires c κs =
@@ -73,17 +68,11 @@ loop-less c = omega arith
 
 loop-again : tie.Need-loop-again Inv-loop μ-loop
 loop-again c =
-    let c1 = c .before in
-    let c2 = c1 .before in
-    let c3 = c2 .before in
-    let c5 = c3 .before .before in
-    let c6 = c5 .before in
-    let c12 = c6 .before .before .before .before .before .before in
-    let l = c6 .loop in
-    let s = now (c12 .args .l) in (
+    let l = c .before .before .before .before .before .before .loop in
+    let s = now (c .before .before .before .before .before .before .before .before .before .before .before .before .args .l) in (
       omega (arith, c .grown .ensures, grown-small (l .v) (getD s (l .i) 0)),
       omega arith,
-      l .inv .2 ∙ scan-at s (l .v) (l .i) (c5 .loop-test .taken) ∙ off _ _ _ (ne-eqb _ _ (c3 .if3 .left)) ∙ on _ _ _ (passes (c2 .is-figure2 .ensures) (c1 .if4 .left))
+      l .inv .2 ∙ scan-at s (l .v) (l .i) (c .before .before .before .before .before .loop-test .taken) ∙ off _ _ _ (ne-eqb _ _ (c .before .before .before .if3 .left)) ∙ on _ _ _ (passes (c .before .before .is-figure2 .ensures) (c .before .if4 .left))
           ∙ ap (λ (v : ℕ). scan v (l .i + 1) (drop (l .i + 1) s)) (sym (c .grown .ensures)),
     )
 
