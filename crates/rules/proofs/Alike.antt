@@ -35,15 +35,15 @@ none-below f zero h = refl
 none-below f (suc n) h = or-none (f n) (anyBelow f n) (h n (omega arith)) (none-below f n λ i l. h i (omega arith))
 
 -- the first 32 bytes but for the two values
-pub head-open : (j : ℕ) → j < 32 → (j < 10) ⊎ (18 ≤ j) → (j < 20) ⊎ (28 ≤ j) → secret j ≡ false
+pub head-open : (s : List ℕ) (j : ℕ) → j < 32 → (j < 10) ⊎ (18 ≤ j) → (j < 20) ⊎ (28 ≤ j) → secret s j ≡ false
 unfolding secret inPinRead
-head-open j h a b =
+head-open s j h a b =
     or-none (within 10 8 j || within 20 8 j) (anyBelow (inPinRead j) slots) (or-none (within 10 8 j) (within 20 8 j) (outside 10 8 j a) (outside 20 8 j b))
     (none-below (inPinRead j) slots λ i l. and-off-right (pinRead i) _ (outside (offset i) (2 + capacity i) j (inl (omega (arith, slot-from i l)))))
 
-pub slot-open : (i : ℕ) → i < slots → pinRead i ≡ false → (m : ℕ) → m < 2 + capacity i → secret (offset i + m) ≡ false
+pub slot-open : (s : List ℕ) (i : ℕ) → i < slots → pinRead i ≡ false → (m : ℕ) → m < 2 + capacity i → secret s (offset i + m) ≡ false
 unfolding secret inPinRead
-slot-open i hi o m hm =
+slot-open s i hi o m hm =
     let j : ℕ = offset i + m in
     or-none (within 10 8 j || within 20 8 j) (anyBelow (inPinRead j) slots)
     (or-none (within 10 8 j) (within 20 8 j) (outside 10 8 j (inr (omega (arith, slot-from i hi)))) (outside 20 8 j (inr (omega (arith, slot-from i hi)))))
@@ -56,6 +56,7 @@ slot-open i hi o m hm =
 
 module _ (s t : List ℕ) (al : Alike s t) where
   pub alike-splice : (at : ℕ) (v : List ℕ) → at + length v ≤ length s → Alike (splice s at v) (splice t at v)
+  unfolding secret
   alike-splice at v fits =
       let fitsT : at + length v ≤ length t = omega (arith, al .size) in
       record {
@@ -71,15 +72,15 @@ module _ (s t : List ℕ) (al : Alike s t) where
   length-same : (i : ℕ) → i < slots → pinRead i ≡ false → slotLength s i ≡ slotLength t i
   unfolding slotLength be16
   length-same i hi o =
-      let p : getD s (offset i) 0 ≡ getD t (offset i) 0 = al .same (offset i) (subst (λ (n : ℕ). secret n ≡ false) (omega arith) (slot-open i hi o 0 (omega arith))) in
-      let q : getD s (offset i + 1) 0 ≡ getD t (offset i + 1) 0 = al .same (offset i + 1) (slot-open i hi o 1 (omega arith)) in
+      let p : getD s (offset i) 0 ≡ getD t (offset i) 0 = al .same (offset i) (subst (λ (n : ℕ). secret s n ≡ false) (omega arith) (slot-open s i hi o 0 (omega arith))) in
+      let q : getD s (offset i + 1) 0 ≡ getD t (offset i + 1) 0 = al .same (offset i + 1) (slot-open s i hi o 1 (omega arith)) in
       rw (p, q)
 
   pub alike-object : Sound s → Sound t → (i : ℕ) → i < slots → pinRead i ≡ false → objectOf s i ≡ objectOf t i
   unfolding objectOf
   alike-object ss st i hi o = rw (length-same i hi o)
       (part-ext s t (offset i + 2) (slotLength t i) (omega (arith, slot-fits i hi, ss .size, st .lengths i hi)) (omega (arith, slot-fits i hi, st .size, st .lengths i hi))
-      λ j a b. al .same j (subst (λ (n : ℕ). secret n ≡ false) (omega arith) (slot-open i hi o (j - offset i) (omega (arith, st .lengths i hi)))))
+      λ j a b. al .same j (subst (λ (n : ℕ). secret s n ≡ false) (omega arith) (slot-open s i hi o (j - offset i) (omega (arith, st .lengths i hi)))))
 
 -- ---- reading without the PIN
 

@@ -52,34 +52,35 @@ use Rattle.rules.proofs.ReadBack.{back-again}
 
 -- ---- stores that differ where it is secret
 
-alike-secret : (s v : List ℕ) (at : ℕ) → at + length v ≤ length s → ((k : ℕ) → k < length v → secret (at + k) ≡ true) → Alike s (splice s at v)
+alike-secret : (s v : List ℕ) (at : ℕ) → at + length v ≤ length s → ((k : ℕ) → k < length v → secret s (at + k) ≡ true) → Alike s (splice s at v)
 alike-secret s v at h sec = record {
   size = sym (length-splice s v at h);
   same = λ j o. sym (by-order j at (λ l. splice-before s v at h j l)
       (λ l. by-order j (at + length v)
-      (λ m. let e : at + (j - at) ≡ j = omega arith in absurd (true≢false (sym (sec (j - at) (omega arith)) ∙ ap secret e ∙ o)))
+      (λ m. let e : at + (j - at) ≡ j = omega arith in absurd (true≢false (sym (sec (j - at) (omega arith)) ∙ ap (secret s) e ∙ o)))
       (λ m. splice-after s v at h j m)));
 }
 
 alike-on : (s t u : List ℕ) → Alike s t → Alike t u → Alike s u
+unfolding secret
 alike-on s t u a b = record { size = a .size ∙ b .size; same = λ j o. a .same j o ∙ b .same j o }
 
 -- two stores whose first 32 bytes are alike, and whose others are zero
 hidden : List ℕ → List ℕ → ℕ → Bool
-hidden s t j = secret j || eqb (getD s j 0) (getD t j 0)
+hidden s t j = secret s j || eqb (getD s j 0) (getD t j 0)
 
 alike-heads : (s t : List ℕ) → length s ≡ length t → allBelow (hidden s t) 32 ≡ true
     → ((j : ℕ) → 32 ≤ j → getD s j 0 ≡ 0) → ((j : ℕ) → 32 ≤ j → getD t j 0 ≡ 0) → Alike s t
 unfolding hidden
 alike-heads s t l e a b = record {
   size = l;
-  same = λ j o. by-order j 32 (λ h. eqb-true _ _ (or-other (secret j) _ (at-each (hidden s t) 32 e j h) o)) (λ h. a j h ∙ sym (b j h));
+  same = λ j o. by-order j 32 (λ h. eqb-true _ _ (or-other (secret s j) _ (at-each (hidden s t) 32 e j h) o)) (λ h. a j h ∙ sym (b j h));
 }
 
 -- the printed information, slot 9
-printed-secret : (k : ℕ) → k < 514 → secret (32306 + k) ≡ true
+printed-secret : (s : List ℕ) (k : ℕ) → k < 514 → secret s (32306 + k) ≡ true
 unfolding secret inPinRead pinRead offset capacity
-printed-secret k h =
+printed-secret s k h =
     let w : within 32306 514 (32306 + k) ≡ true = and-both _ _ (le-leb 32306 (32306 + k) (omega arith)) (lt-ltb (32306 + k) (32306 + 514) (omega arith)) in
     or-right (within 10 8 (32306 + k) || within 20 8 (32306 + k)) _ (or-right (inPinRead (32306 + k) 11) _ (or-right (inPinRead (32306 + k) 10) _ (or-left (inPinRead (32306 + k) 9) _ w)))
 
@@ -103,7 +104,7 @@ alike-other =
     let v : List ℕ = slotBytes 9 (hex 2 0x0809) in
     alike-on a b _
     (alike-heads a b (wf-size a fixed-well ∙ sym lb) heads-alike (bare-blank fixedCard refl fixed-fair) (bare-blank otherPins refl pins-fair))
-    (alike-secret b v 32306 (omega (arith, lb, slot-size)) (λ k h. printed-secret k (omega (arith, slot-size))))
+    (alike-secret b v 32306 (omega (arith, lb, slot-size)) (λ k h. printed-secret b k (omega (arith, slot-size))))
   where
     slot-size : length (slotBytes 9 (hex 2 0x0809)) ≡ 514
     slot-size = slotBytes-length 9 (hex 2 0x0809) (unfold capacity in omega arith) ∙ unfold capacity in refl

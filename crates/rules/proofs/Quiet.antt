@@ -199,8 +199,8 @@ alike-by s t a b p q al = subst (λ (x : List ℕ). Alike x t) (sym p) (subst (�
 
 -- the counts are not secret
 pub tries-same : (s t : List ℕ) → Alike s t → (w : Which) → getD s (placeOf w + 1) 0 ≡ getD t (placeOf w + 1) 0
-tries-same s t al thePin = al .same 9 (head-open 9 (omega arith) (inl (omega arith)) (inl (omega arith)))
-tries-same s t al thePuk = al .same 19 (head-open 19 (omega arith) (inr (omega arith)) (inl (omega arith)))
+tries-same s t al thePin = al .same 9 (head-open s 9 (omega arith) (inl (omega arith)) (inl (omega arith)))
+tries-same s t al thePuk = al .same 19 (head-open s 19 (omega arith) (inr (omega arith)) (inl (omega arith)))
 
 place-low : (w : Which) → placeOf w + 2 ≤ 28
 place-low thePin = omega arith
@@ -304,7 +304,7 @@ module _ (s t w : List ℕ) (ss : Session) (pn : ss .pin ≡ false) (k : Pair s 
 
   key-same : (x : ℕ) → algorithmOf s x ≡ algorithmOf t x
   unfolding algorithmOf
-  key-same x = k .alike .same (keyPlace x) (head-open (keyPlace x) (omega (arith, key-high x)) (inr (omega (arith, key-low x))) (inr (omega (arith, key-low x))))
+  key-same x = k .alike .same (keyPlace x) (head-open _ (keyPlace x) (omega (arith, key-high x)) (inr (omega (arith, key-low x))) (inr (omega (arith, key-low x))))
 
   each-same : (h : Header) (n : ℕ) → authEach (state s w ss) h n ≡ authEach (state t w ss) h n
   unfolding authEach keyFits

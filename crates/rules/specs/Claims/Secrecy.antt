@@ -2,7 +2,7 @@
 --
 --   within at n j         j is one of the n places from `at` on
 --   pinRead i             the object in slot i is PIN-read
---   secret j              a store's byte j is one of the PIN's eight, of the PUK's eight, or in the slot of a PIN-read object
+--   secret s j            the byte j of the store s is one of the PIN's eight, of the PUK's eight, or in the slot of a PIN-read object
 --   Alike s t             two stores that differ at most there
 --   noEqual ss            of the steps ss none is a comparison that found a PIN or PUK equal
 --   NoneEqual rs          and so it is with each call of a run
@@ -49,12 +49,12 @@ unfoldable pub inPinRead : ℕ → ℕ → Bool
 inPinRead j i = pinRead i && within (offset i) (2 + capacity i) j
 
 -- the eight bytes of a value stand behind its limit and its tries left
-unfoldable pub secret : ℕ → Bool
-secret j = within (pinAt + 2) 8 j || within (pukAt + 2) 8 j || anyBelow (inPinRead j) slots
+unfoldable pub secret : List ℕ → ℕ → Bool
+secret s j = within (pinAt + 2) 8 j || within (pukAt + 2) 8 j || anyBelow (inPinRead j) slots
 
 pub record Alike (s t : List ℕ) : Type 0 where
   pub size : length s ≡ length t
-  pub same : (j : ℕ) → secret j ≡ false → getD s j 0 ≡ getD t j 0
+  pub same : (j : ℕ) → secret s j ≡ false → getD s j 0 ≡ getD t j 0
 
 -- ---- comparisons
 
