@@ -4,7 +4,8 @@ use borrow.Author.Tests.{ltb-false, not-false}
 use mathlib.Core.Path.{refl, sym, _∙_}
 use Rattle.rules.specs.Session.{state}
 use Rattle.rules.specs.Calls.{lent, keptSession, granted, illSession, shortResponse, sends}
-use Rattle.card.proofs.Laws.{granted-facts, call-denied, call-granted}
+use Rattle.rules.proofs.Permits.{granted-lets}
+use Rattle.card.proofs.Laws.{outcome-denied, outcome-granted}
 use borrow.Author.Needs.{needs}
 use Rattle.card.proofs.command.Statement.{statement}
 use Rattle.card.proofs.command.Tie as tie
@@ -28,8 +29,8 @@ obey-requires c κs =
     let st = state (a .store .now) (a .work .now) (a .session) in
     let k = sends (a .resp .now) (a .cmd .now) in
     let e = sym (c .before .before .before .before .before .command .ensures (a .store .now) (a .work .now) (a .resp .now) (a .cmd .now) (c .before .before .before .before .before .before .well-formed .ensures) refl refl) ∙ c .before .before .before .enum-told .given .1 in
-    let g = granted-facts st k e in
-    (ltb-false _ _ (g .resp), g .store, not-false _ (g .session), g .work)
+    let g = granted-lets st k e in
+    (ltb-false _ _ (g .response), g .store, not-false _ (g .session), g .work)
 
 same-length : tie.Need-same-length
 same-length c = search needs
@@ -41,7 +42,7 @@ returns c =
     let st = state (a .store .now) (a .work .now) (a .session) in
     let k = sends (a .resp .now) (a .cmd .now) in
     let e = sym (c .before .before .before .command .ensures (a .store .now) (a .work .now) (a .resp .now) (a .cmd .now) (c .before .before .before .before .well-formed .ensures) refl refl) ∙ c .before .x .given .1 in
-    call-denied st k _ e
+    outcome-denied st k _ e
 
 same-length-2 : tie.Need-same-length-2
 same-length-2 c = search needs
@@ -59,7 +60,7 @@ returns-2 c =
     let st = state (a .store .now) (a .work .now) (a .session) in
     let k = sends (a .resp .now) (a .cmd .now) in
     let e = sym (c .before .before .before .before .before .before .before .before .before .before .before .before .command .ensures (a .store .now) (a .work .now) (a .resp .now) (a .cmd .now) (c .before .before .before .before .before .before .before .before .before .before .before .before .before .well-formed .ensures) refl refl) ∙ c .before .before .before .before .before .before .before .before .before .before .enum-told .given .1 in
-    c .before .before .before .before .before .before .obey .ensures ∙ call-granted st k e
+    c .before .before .before .before .before .before .obey .ensures ∙ outcome-granted st k e
 
 pub command-spec : {M : Type 1} → statement M
 command-spec =

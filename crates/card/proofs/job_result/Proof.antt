@@ -3,7 +3,8 @@
 use mathlib.Core.Path.{refl, sym, _∙_}
 use borrow.Author.Tests.{ltb-false, not-false}
 use Rattle.rules.specs.Session.{state}
-use Rattle.card.proofs.Laws.{granted-facts, possible-held, call-denied, call-granted, fits-unless}
+use Rattle.rules.proofs.Permits.{granted-lets}
+use Rattle.card.proofs.Laws.{possible-held, outcome-denied, outcome-granted, fits-unless}
 use Rattle.rules.specs.Calls.{finishes, lent, keptSession, granted, illSession, shortResponse, unasked, wrongResult}
 use borrow.Author.Needs.{needs}
 use Rattle.card.proofs.job_result.Statement.{statement}
@@ -28,9 +29,9 @@ finish-requires c κs =
     let st = state (a .store .now) (a .work .now) (a .session) in
     let k = finishes (a .resp .now) (a .failed) (a .result .now) in
     let e = sym (c .before .before .before .before .job-result .ensures (a .store .now) (a .work .now) (a .resp .now) (a .result .now) (c .before .before .before .before .before .well-formed .ensures) refl refl refl) ∙ c .before .before .enum-told .given .1 in
-    let g = granted-facts st k e in
+    let g = granted-lets st k e in
     let h = possible-held (a .session) (not-false _ (g .session)) in
-    (ltb-false _ _ (g .resp), g .work, h .job, not-false _ (g .asked), fits-unless _ _ (g .right))
+    (ltb-false _ _ (g .response), g .work, h .job, not-false _ (g .asked), fits-unless _ _ (g .result))
 
 returns : tie.Need-returns
 unfolding keptSession lent
@@ -39,7 +40,7 @@ returns c =
     let st = state (a .store .now) (a .work .now) (a .session) in
     let k = finishes (a .resp .now) (a .failed) (a .result .now) in
     let e = sym (c .before .before .before .job-result .ensures (a .store .now) (a .work .now) (a .resp .now) (a .result .now) (c .before .before .before .before .well-formed .ensures) refl refl refl) ∙ c .before .x .given .1 in
-    call-denied st k _ e
+    outcome-denied st k _ e
 
 same-length : tie.Need-same-length
 same-length c = search needs
@@ -54,7 +55,7 @@ returns-2 c =
     let st = state (a .store .now) (a .work .now) (a .session) in
     let k = finishes (a .resp .now) (a .failed) (a .result .now) in
     let e = sym (c .before .before .before .before .before .before .before .before .before .job-result .ensures (a .store .now) (a .work .now) (a .resp .now) (a .result .now) (c .before .before .before .before .before .before .before .before .before .before .well-formed .ensures) refl refl refl) ∙ c .before .before .before .before .before .before .before .enum-told .given .1 in
-    c .before .before .before .before .finish .ensures (a .store .now) ∙ call-granted st k e
+    c .before .before .before .before .finish .ensures (a .store .now) ∙ outcome-granted st k e
 
 pub job-result-spec : {M : Type 1} → statement M
 job-result-spec =

@@ -11,7 +11,8 @@ use Rattle.rules.specs.Session.{state}
 use Rattle.rules.specs.Bytes.{zeros}
 use Rattle.rules.specs.Calls.{outcome, reply, lent, keptSession, poweredOn, granted, powers}
 use Rattle.octets.proofs.Laws.{whole, length-zeros}
-use Rattle.card.proofs.Laws.{granted-facts, call-denied, call-granted}
+use Rattle.rules.proofs.Permits.{granted-lets}
+use Rattle.card.proofs.Laws.{outcome-denied, outcome-granted}
 use borrow.Author.Needs.{needs}
 use Rattle.card.proofs.power_on.Statement.{statement}
 use Rattle.card.proofs.power_on.Tie as tie
@@ -35,7 +36,7 @@ zero-requires : tie.Need-zero-requires
 zero-requires c κs =
     let a = c .before .before .before .before .before .before .before .before .args in
     let e = sym (c .before .before .before .power-on .ensures (a .store .now) (a .work .now) (c .before .before .before .before .before .cleared .result) (a .contactless) (c .before .before .before .before .well-formed .ensures) refl) ∙ c .before .enum-told .given .1 in
-    omega (arith, granted-facts (state (a .store .now) (a .work .now) (c .before .before .before .before .before .cleared .result)) (powers (a .contactless)) e .work)
+    omega (arith, granted-lets (state (a .store .now) (a .work .now) (c .before .before .before .before .before .cleared .result)) (powers (a .contactless)) e .work)
 
 returns : tie.Need-returns
 unfolding keptSession lent
@@ -44,7 +45,7 @@ returns c = λ ss.
     let st = state (a .store .now) (a .work .now) ss in
     let e = sym (c .before .before .before .power-on .ensures (a .store .now) (a .work .now) ss (a .contactless) (c .before .before .before .before .well-formed .ensures) refl) ∙ c .before .x .given .1 in
     ap (λ (t : Session). outcome (reply (Refused (c .before .x .given .0 .0)) t) (a .store .now) (a .work .now) []) (c .before .before .before .before .before .cleared .ensures)
-    ∙ call-denied st (powers (a .contactless)) _ e
+    ∙ outcome-denied st (powers (a .contactless)) _ e
 
 same-length : tie.Need-same-length
 same-length c = search needs
@@ -55,10 +56,10 @@ returns-2 c = λ ss.
     let a = c .before .before .before .before .before .before .before .before .before .before .before .args in
     let st = state (a .store .now) (a .work .now) ss in
     let e = sym (c .before .before .before .before .before .before .power-on .ensures (a .store .now) (a .work .now) ss (a .contactless) (c .before .before .before .before .before .before .before .well-formed .ensures) refl) ∙ c .before .before .before .before .enum-told .given .1 in
-    let l : length (a .work .now) ≡ 13321 = granted-facts st (powers (a .contactless)) e .work in
+    let l : length (a .work .now) ≡ 13321 = granted-lets st (powers (a .contactless)) e .work in
     let z = c .before .before .zero .ensures ∙ whole (a .work .now) (zeros 13321) (omega (arith, length-zeros 13321)) in
     ap₂ (λ (t : Session) (w : List ℕ). outcome (reply PoweredOn t) (a .store .now) w []) (c .before .before .before .before .before .before .before .before .cleared .ensures) z
-    ∙ call-granted st (powers (a .contactless)) e
+    ∙ outcome-granted st (powers (a .contactless)) e
 
 pub power-on-spec : {M : Type 1} → statement M
 power-on-spec =
