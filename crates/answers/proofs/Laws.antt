@@ -20,7 +20,7 @@ use Rattle.rules.specs.Session.{State, restOk}
 use Rattle.rules.specs.Command.{says}
 use Rattle.rules.specs.Held.{dropped, send, fetch}
 use Rattle.rules.specs.Objects.{aid, template, select, getRest, getResponse}
-use Rattle.rules.proofs.Tests.{on, off, and-left, and-right, and-both, and-off-left, and-off-right, p1-off, p2-off, both-on}
+use Rattle.rules.proofs.Tests.{on, off, and-left, and-right, p1-off, p2-off, both-on}
 
 -- ---- SELECT
 

@@ -7,7 +7,7 @@
 -- Assumes nothing.
 use mathlib.Core.Path.{_≡_, refl, ap, sym, _∙_, subst}
 use mathlib.Core.Logic.{_⊎_, inl, inr}
-use mathlib.Core.Bool.{Bool, true, false, not, _&&_, _||_}
+use mathlib.Core.Bool.{Bool, true, false, _||_}
 use mathlib.Core.List.{List}
 use Prim.Native.Nat.{ℕ, _+_, _≤_, _<_}
 use native.Mathlib.Omega.{arith}
@@ -18,7 +18,7 @@ use Rattle.rules.specs.declared.Header.{Header}
 use Rattle.rules.specs.declared.Checked.{Checked}
 use Rattle.rules.specs.declared.Checked.the-variants.{Passed, Failed}
 use Rattle.rules.specs.Bytes.{iff}
-use Rattle.rules.specs.Command.{leOf, header, parseLong, parse, known, chains, contactOnly, admit, admitted, check}
+use Rattle.rules.specs.Command.{leOf, header, parseLong, parse, admit, admitted, check}
 use Rattle.rules.specs.Claims.Lengths.{Bytes}
 use Rattle.rules.proofs.Tests.{on, off, or-left, or-right, or-none, either}
 use Rattle.apdu.specs.Shape.{Shaped}

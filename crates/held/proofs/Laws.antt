@@ -27,7 +27,7 @@ use Rattle.rules.specs.Session.{State, state, holding, chainLength, heldLength}
 use Rattle.rules.specs.Command.{Made, says}
 use Rattle.rules.specs.Held.{dropped, goesOn, based, gathered, heldPiece, closedWork, closed, piece}
 use Rattle.rules.proofs.Tests.{on, off, either}
-use Rattle.octets.proofs.Laws.{length-zeros}
+use Rattle.rules.proofs.Lists.{length-zeros}
 
 module _ (w d : List ℕ) (n : ℕ) (h : n + length d ≤ length w) where
   pub gathered-part : part (splice w n d) 0 (n + length d) ≡ take n w ++ d

@@ -7,9 +7,9 @@
 --
 -- Assumes nothing.
 use mathlib.Core.Path.{_≡_, refl, ap, sym, _∙_}
-use mathlib.Core.Bool.{Bool, true, false, not, true≢false}
+use mathlib.Core.Bool.{Bool, false, not, true≢false}
 use mathlib.Core.List.{List}
-use Prim.Native.Nat.{ℕ, _+_, _/_, _≤_, _<_, min}
+use Prim.Native.Nat.{ℕ, _/_, _≤_, _<_, min}
 use native.Mathlib.Omega.{arith}
 use lib.Dec.{leb, ltb, eqb}
 use lib.ListN.{length, take, length-take}
@@ -19,14 +19,13 @@ use Rattle.rules.specs.declared.Job.{Job}
 use Rattle.rules.specs.declared.Job.the-variants.{Idle, Running}
 use Rattle.rules.specs.declared.Permit.{Permit}
 use Rattle.rules.specs.declared.Permit.the-variants.{Granted, Denied}
-use Rattle.rules.specs.declared.Checked.{Checked}
 use Rattle.rules.specs.declared.Checked.the-variants.{Failed}
 use Rattle.rules.specs.Bytes.{splice}
 use Rattle.rules.specs.Session.{State}
 use Rattle.rules.specs.Command.{parse, admitted, check}
 use Rattle.rules.specs.Keys.{resultOk, resultFits}
 use Rattle.rules.specs.Held.{calm}
-use Rattle.rules.specs.Calls.{obeyed, command, Outcome, illSession, shortResponse, interrupts, unasked, wrongResult, permit, granted, denied, lent, keptSession, decided, call, delivered, sends, finishes}
+use Rattle.rules.specs.Calls.{obeyed, command, illSession, shortResponse, interrupts, unasked, wrongResult, permit, granted, denied, lent, keptSession, decided, call, delivered, sends, finishes}
 use Rattle.rules.proofs.Tests.{on, either, or-right, and-off-right, by-order}
 use Rattle.card.proofs.Laws.{granted-facts}
 use Rattle.text.specs.Text.{bytesOf}

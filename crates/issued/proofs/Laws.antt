@@ -10,8 +10,8 @@ use native.Mathlib.Omega.{arith}
 use lib.ListN.{length, length-append}
 use Rattle.rules.specs.Bytes.{splice, zeros}
 use Rattle.rules.specs.Claims.Starred.{hex, fixed}
-use Rattle.rules.proofs.Lists.{join-start}
-use Rattle.octets.proofs.Laws.{length-zeros, whole}
+use Rattle.rules.proofs.Lists.{join-start, length-zeros}
+use Rattle.octets.proofs.Laws.{whole}
 
 abbrev pub head : List ℕ
 head = hex 32 0x4F50430001000000_0303313233343536FFFF_03033132333435363738_00000000

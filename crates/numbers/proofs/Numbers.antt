@@ -2,7 +2,7 @@
 --
 --   Number f k m       f reads a number below m from k bytes, and the bytes and the number give each other
 --   byte join          one byte is a number, and so are two numbers, one behind the other
---   number16 number24 number32 number64    be16, be24, be32 and be64 are numbers
+--   number16 number32 number64    be16, be32 and be64 are numbers
 --   number-same        two stretches have the same number exactly where they are the same bytes
 --
 -- So eight bytes are given by their number (`number64 .given`), and their number by them (`number64 .alike`).
@@ -17,10 +17,10 @@ use lib.Dec.{eqb}
 use lib.ListN.{length, take, drop, getD}
 use lib.Seq.{getD-take, getD-drop}
 use borrow.Author.Tests.{eqb-true, eqb-false}
-use Rattle.rules.specs.Bytes.{sameBytes, part, be16, be24, be32, be64}
+use Rattle.rules.specs.Bytes.{sameBytes, part, be16, be32, be64}
 use Rattle.rules.specs.Claims.Lengths.{Bytes}
-use Rattle.rules.proofs.Lists.{part-none, part-cons, same-bytes, same-true}
-use Rattle.octets.proofs.Laws.{part-add, part-first, part-rest}
+use Rattle.rules.proofs.Lists.{part-none, part-cons, same-bytes, same-true, part-add}
+use Rattle.octets.proofs.Laws.{part-first, part-rest}
 
 -- below: the number is below m where the elements of s are bytes
 -- given: two stretches inside their rows with the same number are the same bytes
@@ -76,10 +76,6 @@ join {f} {g} {k} {j} {m} {n} p q = record {
 pub number16 : Number be16 2 (2 ^ 16)
 unfolding be16
 number16 = join byte byte
-
-pub number24 : Number be24 3 (2 ^ 24)
-unfolding be24
-number24 = join byte number16
 
 pub number32 : Number be32 4 (2 ^ 32)
 unfolding be32

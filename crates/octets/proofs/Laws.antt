@@ -1,13 +1,12 @@
 -- Laws: what the writers and the comparison do to a row of bytes.
 --
 --   fill-step fill-done    a row that is filled with the bytes of another, one by one from the front
---   length-zeros zeros-at  a row of zeros
+--   zeros-at               a row of zeros
 --   lent                   a part that was lent and came back as v
 --   splice-one             one byte stored
 --   splice-cons            a byte, and a stretch right behind it
 --   whole                  a row replaced whole
---   part-add               a part is its first k bytes and the j bytes behind them
---   part-first part-rest   these, taken from the part itself
+--   part-first part-rest   the first k bytes of a part, and the j bytes behind them
 --   same-on same-off       two rows compared from a place on: the bytes there are equal, or not
 --   same-end               no bytes are left
 --   other-length           rows of two lengths are not the same
@@ -22,8 +21,8 @@ use native.Mathlib.Nat.{not-suc-le-zero, le-of-suc-le-suc, suc-add, zero-add}
 use native.Mathlib.Numerals.{add-one}
 use native.Mathlib.Omega.{arith}
 use lib.Dec.{eqb}
-use lib.ListN.{length, take, drop, set, getD, drop-of-length-le, length-replicate, getD-replicate}
-use lib.Seq.{take-all, take-add, take-take, take-nil, drop-drop, drop-cons, set-split}
+use lib.ListN.{length, take, drop, set, getD, drop-of-length-le, getD-replicate}
+use lib.Seq.{take-all, take-take, take-nil, drop-drop, drop-cons, set-split}
 use borrow.Author.Tests.{eq-eqb, ne-eqb}
 use Rattle.rules.specs.Bytes.{all, sameBytes, part, splice, zeros}
 use Rattle.rules.proofs.Tests.{and-off-left}
@@ -45,10 +44,6 @@ fill-step n s d hs hd = rw add-one (fill-suc n s d hs hd)
 
 pub fill-done : (n : ℕ) (s d : List ℕ) → length s ≤ n → length d ≤ n → take n s ++ drop n d ≡ s
 fill-done n s d hs hd = simp (take-all n s hs, drop-of-length-le d hd, append-nil)
-
-pub length-zeros : (n : ℕ) → length (zeros n) ≡ n
-unfolding zeros
-length-zeros n = length-replicate {A = ℕ} n 0
 
 pub zeros-at : (n i : ℕ) → i < n → getD (zeros n) i 0 ≡ 0
 unfolding zeros
@@ -74,10 +69,6 @@ unfolding splice
 whole s v h = simp (zero-add, drop-of-length-le s h, append-nil)
 
 -- ---- a part taken apart
-
-pub part-add : (s : List ℕ) (a k j : ℕ) → part s a (k + j) ≡ part s a k ++ part s (a + k) j
-unfolding part
-part-add s a k j = rw (take-add k j (drop a s), drop-drop k a s)
 
 pub part-first : (s : List ℕ) (a k j : ℕ) → part s a k ≡ take k (part s a (k + j))
 unfolding part

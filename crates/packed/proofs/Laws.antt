@@ -19,8 +19,8 @@ use Rattle.rules.specs.declared.Job.{Job}
 use Rattle.rules.specs.declared.Job.the-variants.{Idle, Running}
 use Rattle.rules.specs.declared.Session.{Session}
 use Rattle.rules.specs.Bytes.{splice, zeros}
-use Rattle.rules.proofs.Lists.{join-start}
-use Rattle.octets.proofs.Laws.{length-zeros, whole}
+use Rattle.rules.proofs.Lists.{join-start, length-zeros}
+use Rattle.octets.proofs.Laws.{whole}
 use Rattle.packed.specs.Packed.{flagBytes, chainBytes, restBytes, challengeBytes, jobBytes, packed}
 
 -- ---- the length of each part

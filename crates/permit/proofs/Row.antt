@@ -10,7 +10,6 @@ use mathlib.Core.Path.{_≡_, refl, ap, sym, _∙_}
 use mathlib.Core.Bool.{Bool, true, false, not, _&&_}
 use mathlib.Core.List.{List}
 use Prim.Native.Nat.{ℕ, _≤_, _<_}
-use lib.Dec.{ltb, eqb}
 use lib.ListN.{length}
 use borrow.Author.Tests.{eq-eqb, ne-eqb, lt-ltb, le-ltb}
 use Rattle.rules.specs.declared.Refusal.{Refusal}
@@ -19,8 +18,8 @@ use Rattle.rules.specs.declared.Permit.{Permit}
 use Rattle.rules.specs.declared.Permit.the-variants.{Granted, Denied}
 use Rattle.rules.specs.declared.Session.{Session}
 use Rattle.rules.specs.Bytes.{iff}
-use Rattle.rules.specs.Store.{workSize, wellFormed}
-use Rattle.rules.specs.Session.{State, state, possible, jobOpen}
+use Rattle.rules.specs.Store.{wellFormed}
+use Rattle.rules.specs.Session.{state, possible, jobOpen}
 use Rattle.rules.specs.Keys.{resultFits}
 use Rattle.rules.specs.Calls.{powers, sends, finishes, illSession, shortResponse, interrupts, unasked, wrongResult, permit}
 use Rattle.rules.proofs.Tests.{on, off}

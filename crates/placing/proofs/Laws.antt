@@ -12,7 +12,7 @@ use lib.Dec.{leb}
 use lib.ListN.{length, take, drop}
 use lib.Seq.{take-all}
 use borrow.Author.Tests.{le-leb, lt-leb}
-use Rattle.rules.specs.Bytes.{iff, splice}
+use Rattle.rules.specs.Bytes.{splice}
 use Rattle.rules.proofs.Tests.{on, off, and-both, and-off-left, and-off-right}
 use Rattle.text.specs.Text.{isHex, bytesOf}
 use Rattle.text.proofs.Laws.{length-bytes}

@@ -3,22 +3,22 @@
 --   session-odd session-even    a line of another length gives no session, and one of 64 bytes the one that they are of
 --
 -- Assumes nothing.
-use mathlib.Core.Path.{_≡_, refl, ap, sym, _∙_}
-use mathlib.Core.Bool.{Bool, true, false, _&&_}
+use mathlib.Core.Path.{_≡_, ap, _∙_}
+use mathlib.Core.Bool.{true}
 use mathlib.Core.List.{List}
-use Prim.Native.Nat.{ℕ, _+_, _*_, _/_, _%_, _≤_, _<_}
+use Prim.Native.Nat.{ℕ, _%_}
 use native.Mathlib.Omega.{arith}
-use lib.Dec.{leb, eqb}
-use lib.ListN.{length, take, drop, replicate, length-take}
+use lib.Dec.{eqb}
+use lib.ListN.{length, take}
 use lib.Seq.{take-all}
-use borrow.Author.Tests.{le-leb, lt-leb, eqb-true, ne-eqb}
-use Rattle.rules.specs.Bytes.{iff, sameBytes, splice}
-use Rattle.rules.proofs.Tests.{on, off, and-left, and-both, and-off-left, and-off-right}
+use borrow.Author.Tests.{eqb-true, ne-eqb}
+use Rattle.rules.specs.Bytes.{splice}
+use Rattle.rules.proofs.Tests.{off, and-left, and-off-left}
 use Rattle.octets.proofs.Laws.{whole}
-use Rattle.text.specs.Text.{isDigit, isHex, bytesOf}
+use Rattle.text.specs.Text.{isHex, bytesOf}
 use Rattle.text.proofs.Laws.{length-bytes}
 use Rattle.packed.specs.declared.Taken.the-variants.{No}
-use Rattle.packed.specs.Packed.{packed, unpacked, sessionIn}
+use Rattle.packed.specs.Packed.{sessionIn}
 
 -- ---- a session
 

@@ -13,7 +13,6 @@ use mathlib.Core.List.{List, [], _∷_}
 use Prim.Native.Nat.{ℕ}
 use lib.ListN.{drop}
 use Rattle.rules.specs.declared.Reply.{Reply}
-use Rattle.rules.specs.declared.Session.{Session}
 use Rattle.rules.specs.Bytes.{iff}
 use Rattle.rules.specs.Session.{State, state}
 use Rattle.rules.specs.Calls.{Outcome, powers, sends, finishes, call}

@@ -35,7 +35,7 @@ use Rattle.rules.specs.Calls.{Outcome, outcome, reply}
 use Rattle.rules.specs.Claims.NoSecond.{Shows}
 use Rattle.rules.proofs.NoSecond.{no-second}
 use Rattle.rules.proofs.Cards.{fixed-well}
-use Rattle.octets.proofs.Laws.{length-zeros}
+use Rattle.rules.proofs.Lists.{length-zeros}
 use Rattle.tries.specs.declared.PinTries.{PinTries}
 use Rattle.tries.specs.declared.PukTries.{PukTries}
 use Rattle.attempt.specs.declared.Tried.{Tried}

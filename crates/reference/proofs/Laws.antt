@@ -2,7 +2,6 @@
 --
 --   value-length             the value of a record has eight bytes
 --   reference-lent           the record in ten bytes of a store is the store's
---   put-lent                 a record written to the ten bytes is written to the store
 --   put-back step-back       so is one that comes back with ten bytes that were lent, and one on which a step was made
 --
 -- Assumes nothing.
@@ -12,7 +11,7 @@ use Prim.Native.Nat.{ℕ, _+_, _≤_}
 use native.Mathlib.Omega.{arith}
 use lib.ListN.{length, take, drop, getD}
 use lib.Seq.{take-take}
-use Rattle.rules.specs.Bytes.{part, splice}
+use Rattle.rules.specs.Bytes.{part}
 use Rattle.rules.specs.Reference.{Reference, referenceAt, putReference}
 use Rattle.rules.proofs.Lists.{length-part, getD-part}
 use Rattle.octets.proofs.Laws.{lent, part-rest, whole}
@@ -35,10 +34,6 @@ module _ (s : List ℕ) (at : ℕ) (h : at + 10 ≤ length s) where
     written : putReference (part s at 10) 0 f ≡ f .limit ∷ f .left ∷ f .value
     unfolding putReference
     written = whole (part s at 10) (f .limit ∷ f .left ∷ f .value) (omega (arith, length-part s at 10 h))
-
-    pub put-lent : splice s at (putReference (part s at 10) 0 f) ≡ putReference s at f
-    unfolding putReference
-    put-lent = ap (splice s at) written
 
     pub put-back : (k : ℕ) → k ≡ 10 → take at s ++ (putReference (part s at k) 0 f ++ drop k (drop at s)) ≡ putReference s at f
     unfolding putReference

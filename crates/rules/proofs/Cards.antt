@@ -27,12 +27,12 @@ use Rattle.rules.specs.Session.{state, cleared}
 use Rattle.rules.specs.Calls.{powers, poweredOn, granted, call}
 use Rattle.rules.specs.Runs.{leaves}
 use Rattle.rules.specs.Claims.Starred.{hex, Card, issued, filled, overlong, storeOf, fixed, fixedCard}
+use Rattle.rules.proofs.Lists.{length-zeros}
 use Rattle.rules.proofs.Tests.{and-left, and-right, each-true, all-below}
 use Rattle.rules.proofs.Slots.{slot-from}
 use Rattle.rules.proofs.WellFormed.{tests-wf, wf-size}
 use Rattle.rules.proofs.StaysWell.{wf-put}
 use Rattle.rules.proofs.Permits.{power-granted, call-granted}
-use Rattle.rules.proofs.Kept.{length-zeros}
 use Rattle.rules.proofs.Invariants.{zeros-zero}
 
 -- ---- what is tested of a card

@@ -25,13 +25,14 @@ use Rattle.rules.specs.Session.{State, state, heldLength, sessionTests, 
 use Rattle.rules.specs.Calls.{Call, powers, sends, finishes, illSession, interrupts, wrongResult, permit, Result, delivered, poweredOn, granted, denied, keptSession, decided, call}
 use Rattle.rules.specs.Runs.{leaves, endOf}
 use Rattle.rules.specs.Claims.Invariants.{Plain, Each, Sane, Pardoned, Holds}
+use Rattle.rules.proofs.Lists.{length-zeros}
 use Rattle.rules.proofs.Tests.{branch, by-order, and-other}
 use Rattle.rules.proofs.WellFormed.{wf-tests}
 use Rattle.rules.proofs.StaysWell.{tries}
 use Rattle.rules.proofs.Earned.{call-earned}
 use Rattle.rules.proofs.Permits.{Lets, granted-lets, power-granted, call-denied}
 use Rattle.rules.proofs.Possible.{possible-tests, held-fits-by}
-use Rattle.rules.proofs.Kept.{Zero, Well, Moved, well-fine, command-kept, finished-kept, length-zeros}
+use Rattle.rules.proofs.Kept.{Zero, Well, Moved, well-fine, command-kept, finished-kept}
 
 -- ---- refusals
 

@@ -16,7 +16,7 @@ use mathlib.Core.List.{List, [], _∷_}
 use Prim.Native.Nat.{ℕ, zero, suc, _+_, _-_, _≤_, _<_}
 use native.Mathlib.Omega.{arith}
 use lib.Dec.{ltb, leb, eqb}
-use lib.ListN.{length, take, getD, length-append, length-take, length-replicate, getD-replicate}
+use lib.ListN.{length, take, getD, length-append, length-take, getD-replicate}
 use borrow.Author.Tests.{eqb-true, eqb-false, ltb-true, ltb-false, leb-true, leb-false, le-leb, lt-ltb, not-true, not-false}
 use Rattle.rules.specs.declared.Chain.{Chain}
 use Rattle.rules.specs.declared.Chain.the-variants.{Shut, Open}
@@ -52,7 +52,7 @@ use Rattle.rules.specs.Keys.{keyFits, authEach, contents, replied, opene
 use Rattle.rules.specs.Calls.{ruled, obeyed, command}
 use Rattle.rules.specs.Claims.Lengths.{Bytes}
 use Rattle.rules.proofs.Tests.{either, branch, off, and-left, and-right, and-both, and-end, and-other, by-order, by-equal}
-use Rattle.rules.proofs.Lists.{length-splice, splice-in, splice-after, length-part, getD-part}
+use Rattle.rules.proofs.Lists.{length-splice, splice-in, splice-after, length-part, getD-part, length-zeros}
 use Rattle.rules.proofs.Possible.{Tests, possible-tests, possible-by, held-fits-by, no-chain, no-rest, none-open}
 use Rattle.rules.proofs.Slots.{Sound, slot-from, object-length, capacity-small, put-before}
 use Rattle.rules.proofs.Refs.{refs-onto}
@@ -135,10 +135,6 @@ well-fine st g e =
 
 pub held-fits : (st : State) → Fine st → heldLength (st .session) ≤ workSize
 held-fits st f = held-fits-by (st .session .chain) (st .session .rest) (f .chain) (f .rest) (f .apart)
-
-pub length-zeros : (n : ℕ) → length (zeros n) ≡ n
-unfolding zeros
-length-zeros n = length-replicate n 0
 
 zeroed-zero : (w : List ℕ) (n m : ℕ) → n ≤ length w → m ≤ n → Zero w n → Zero (zeroed w n) m
 unfolding zeroed zeros

@@ -2,6 +2,7 @@
 --
 --   length-splice          a splice keeps the length
 --   splice-before splice-in splice-after    what stands before, in and after the stretch
+--   length-zeros           a row of zeros
 --   length-part getD-part  the length of a part, and what stands in it
 --   part-ext               two rows that agree on a stretch have the same part there
 --   part-apart             a part apart from the stretch stays
@@ -12,6 +13,7 @@
 --   splice-within          a stretch whose ends stay as they were
 --   splice-next join-start two stretches put one behind the other, and from the start
 --   part-start             the start of a row whose start was replaced
+--   part-add               a part is its first bytes and those behind them
 --   part-none part-cons    a part of no bytes, and its first byte
 --   part-head              the part of a row that starts with the row v
 --   same-bytes same-true   `sameBytes` says that two rows are equal
@@ -26,10 +28,10 @@ use native.Mathlib.Omega.{arith}
 use native.Mathlib.Numerals.{add-one}
 use native.Mathlib.Nat.{add-assoc, zero-add}
 use lib.Dec.{eqb}
-use lib.ListN.{length, take, drop, getD, length-append, length-take, length-drop, List·getD-append}
-use lib.Seq.{length-take-le, getD-append-add, getD-take, getD-drop, ext-getD, take-at, drop-at, drop-drop, drop-cons, take-append-le}
+use lib.ListN.{length, take, drop, getD, length-append, length-take, length-drop, List·getD-append, length-replicate}
+use lib.Seq.{length-take-le, getD-append-add, getD-take, getD-drop, ext-getD, take-at, drop-at, drop-drop, drop-cons, take-append-le, take-add}
 use borrow.Author.Tests.{eqb-true, eq-eqb}
-use Rattle.rules.specs.Bytes.{sameBytes, part, splice}
+use Rattle.rules.specs.Bytes.{sameBytes, part, splice, zeros}
 use Rattle.rules.proofs.Tests.{and-left, and-right, and-both, by-order}
 
 -- ---- a stretch replaced
@@ -61,6 +63,12 @@ module _ (s v : List ℕ) (at : ℕ) (fits : at + length v ≤ length s) where
       ∙ getD-drop (at + length v) s m 0
       ∙ ap (λ (n : ℕ). getD s n 0) (omega arith)
 
+-- ---- zeros
+
+pub length-zeros : (n : ℕ) → length (zeros n) ≡ n
+unfolding zeros
+length-zeros n = length-replicate n 0
+
 -- ---- parts
 
 module _ (s : List ℕ) (at n : ℕ) (fits : at + n ≤ length s) where
@@ -90,6 +98,10 @@ unfolding splice
 take-splice s v at h =
     ap (take (at + length v)) (sym (append-assoc (take at s) v (drop (at + length v) s)))
     ∙ take-at (take at s ++ v) _ (at + length v) (length-append (take at s) v ∙ ap (λ (n : ℕ). n + length v) (length-take-le at s h))
+
+pub part-add : (s : List ℕ) (a k j : ℕ) → part s a (k + j) ≡ part s a k ++ part s (a + k) j
+unfolding part
+part-add s a k j = rw (take-add k j (drop a s), drop-drop k a s)
 
 pub part-none : (s : List ℕ) (at : ℕ) → part s at 0 ≡ []
 unfolding part

@@ -3,7 +3,6 @@
 --   call-sends             a command that is not refused
 --   data-delivered word-delivered    what a response shows
 --   more-is gets-is        GET RESPONSE and GET DATA are what the definition says of them
---   part-add               a part and what is behind it
 --   rest-read              the rest of a response, by GET RESPONSEs
 --   answers                what is said of a slot
 --
@@ -15,7 +14,7 @@ use Prim.Native.Nat.{ℕ, zero, suc, _+_, _-_, _*_, _/_, _%_, _≤_, _<_}
 use native.Mathlib.Omega.{arith}
 use lib.Dec.{ltb, eqb}
 use lib.ListN.{length, take, drop, getD, length-drop, take-append-drop}
-use lib.Seq.{take-add, drop-drop, take-at, drop-append-le, getD-append-add}
+use lib.Seq.{take-at, drop-append-le, getD-append-add}
 use borrow.Author.Tests.{eqb-true, ne-eqb, eq-eqb, ltb-true, le-leb, lt-leb, lt-ltb, le-ltb}
 use Rattle.rules.specs.declared.Rest.the-variants.{Left}
 use Rattle.rules.specs.declared.Challenge.the-variants.{Unasked}
@@ -33,6 +32,7 @@ use Rattle.rules.specs.Calls.{command, Call, sends, Result, illSession, 
 use Rattle.rules.specs.Runs.{leaves, run}
 use Rattle.rules.specs.Claims.Lengths.{Bytes}
 use Rattle.rules.specs.Claims.ReadBack.{Le, absent, byte, leBytes, wanted, LeOk, tagBytesOf, tagList, gets, more, dataOf, wordOf, joined, lastWord, Ask, AskOk, AsksOk, reading, Ends, Answers}
+use Rattle.rules.proofs.Lists.{part-add}
 use Rattle.rules.proofs.Tests.{on, off, and-left, and-right, at-each, or-other}
 use Rattle.rules.proofs.Permits.{lets-granted}
 use Rattle.rules.proofs.Kept.{Well, object-short}
@@ -160,10 +160,6 @@ more-bytes le o = bytes-append (0x00 ∷ 0xC0 ∷ 0x00 ∷ 0x00 ∷ []) (leBytes
 
 -- ---- the rest of a response
 
-pub part-add : (w : List ℕ) (k n m : ℕ) → part w k n ++ part w (k + n) m ≡ part w k (n + m)
-unfolding part
-part-add w k n m = sym (take-add n m (drop k w) ∙ ap (λ (l : List ℕ). take n (drop k w) ++ take m l) (drop-drop n k w))
-
 abbrev asking : Ask → Call
 asking x = sends (x .resp) (more (x .le))
 
@@ -212,7 +208,7 @@ rest-read (b ∷ bs) a st whole k g j e h o os n =
     rest-read bs b t whole (k + m) (next-well st g j whole k e a o l) j refl (omega arith) (os .0) (os .1) (subst (λ (x : ℕ). Ends x b bs) q (n .1)) in (
       ap₂ (λ (x : Result) (y : State). dataOf x ++ joined (run y (map asking (b ∷ bs)))) (next-fetch st g j whole k e a o l) (next-leaves st g j whole k e a o l)
           ∙ ap₂ (λ (x y : List ℕ). x ++ y) (data-delivered (a .resp) t _ _) (r .0)
-          ∙ part-add (st .work) k m (whole - (k + m)) ∙ ap (part (st .work) k) c,
+          ∙ sym (part-add (st .work) k m (whole - (k + m))) ∙ ap (part (st .work) k) c,
       ap (λ (x : State). lastWord (run x (map asking (b ∷ bs)))) (next-leaves st g j whole k e a o l) ∙ r .1,
     )
 

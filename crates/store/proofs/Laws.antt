@@ -12,8 +12,8 @@ use native.Mathlib.Omega.{arith}
 use lib.ListN.{length, length-append}
 use Rattle.rules.specs.Bytes.{iff, splice, zeros, word}
 use Rattle.rules.specs.Store.{capacity, slotBytes, keyPlace}
-use Rattle.rules.proofs.Lists.{join-start}
-use Rattle.octets.proofs.Laws.{length-zeros, whole}
+use Rattle.rules.proofs.Lists.{join-start, length-zeros}
+use Rattle.octets.proofs.Laws.{whole}
 
 -- ---- a slot
 

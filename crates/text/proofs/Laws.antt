@@ -6,7 +6,6 @@
 --   hex-high hex-low length-hex    the digits of a row of bytes
 --   hex-append             the hex of two rows, one behind the other
 --   keep-fits              a line that is kept fits its buffer
---   all-at all-end         a row of digits tested from a place on
 --
 -- Assumes nothing.
 use mathlib.Core.Path.{_≡_, refl, sym, ap, subst, _∙_}
@@ -14,13 +13,11 @@ use mathlib.Core.Bool.{Bool, true, false, _&&_}
 use mathlib.Core.List.{List, [], _∷_, _++_, append-nil}
 use Prim.Native.Nat.{ℕ, zero, suc, _+_, _-_, _*_, _/_, _%_, _≤_, _<_}
 use native.Mathlib.Nat.{not-suc-le-zero, le-of-suc-le-suc}
-use native.Mathlib.Numerals.{add-one}
 use native.Mathlib.Omega.{arith}
 use lib.Dec.{leb}
-use lib.ListN.{length, take, drop, getD, drop-of-length-le, length-drop}
-use lib.Seq.{drop-cons, take-all}
+use lib.ListN.{length, take, drop, getD, drop-of-length-le}
 use borrow.Author.Tests.{leb-true, lt-ltb, le-ltb}
-use Rattle.rules.specs.Bytes.{iff, all}
+use Rattle.rules.specs.Bytes.{iff}
 use Rattle.rules.proofs.Tests.{on, off, either, by-order, and-right}
 use Rattle.text.specs.Text.{between, isDigit, digitOf, bytesOf, glyph, hexOf, Kept, kept, keep}
 
@@ -93,11 +90,3 @@ keep-fits s n b m x h e =
     (λ l. subst (λ (k : Kept). k .len ≤ length s) (sym (on _ _ _ (lt-ltb n (length s) l))) (omega arith))
     (λ l. subst (λ (k : Kept). k .len ≤ length s) (sym (off _ _ _ (le-ltb n (length s) l)))
     (either (λ (k : Kept). k .len ≤ length s) (isDigit b && isDigit (getD s (n - 1) 0)) (omega arith) h)))
-
--- ---- a row of digits tested
-
-pub all-at : (f : ℕ → Bool) (l : List ℕ) (i : ℕ) → i < length l → all f (drop i l) ≡ (f (getD l i 0) && all f (drop (i + 1) l))
-all-at f l i h = rw (add-one, drop-cons l i 0 h)
-
-pub all-end : (f : ℕ → Bool) (l : List ℕ) (i : ℕ) → length l ≤ i → all f (drop i l) ≡ true
-all-end f l i h = rw (drop-of-length-le l h)

@@ -5,7 +5,6 @@ ghost use Prim.Native.Nat.{_+_, _≤_, _<_};
 ghost use lib.ListN.{length, take, drop};
 ghost use Rattle.rules.specs.Bytes.{allTrue, all, allBelow, sameBytes, part};
 ghost use Rattle.rules.specs.Reference.{pinForm, referenceOk, referenceAt};
-ghost use Rattle.rules.specs.Store.{capacity};
 ghost use Rattle.rules.specs.Store.{mark, algorithmOk, slotOk, storeTests, wellFormed};
 
 // The mark OPC, version 1, three zero bytes.

@@ -1,12 +1,10 @@
 -- `attempt::halves` meets its contract: its tests are those of the word, in their order.
 -- Assumes nothing.
-use mathlib.Core.Path.{_≡_, ap, _∙_}
-use mathlib.Core.Bool.{true}
+use mathlib.Core.Path.{ap, _∙_}
 use mathlib.Core.List.{List}
 use Prim.Native.Nat.{ℕ}
 use borrow.Author.Needs.{needs}
 use denote.Ref.{now}
-use lib.ListN.{take}
 use Rattle.rules.proofs.Tests.{passes, fails}
 use Rattle.attempt.specs.Words.{formOf}
 use Rattle.attempt.proofs.Laws.{word-none, word-length, word-first, word-last, word-passed, first-half, last-half}

@@ -10,7 +10,8 @@ use Rattle.rules.specs.declared.Session.{Session}
 use Rattle.rules.specs.Session.{state}
 use Rattle.rules.specs.Bytes.{zeros}
 use Rattle.rules.specs.Calls.{outcome, reply, lent, keptSession, poweredOn, granted, powers}
-use Rattle.octets.proofs.Laws.{whole, length-zeros}
+use Rattle.rules.proofs.Lists.{length-zeros}
+use Rattle.octets.proofs.Laws.{whole}
 use Rattle.rules.proofs.Permits.{granted-lets}
 use Rattle.card.proofs.Laws.{outcome-denied, outcome-granted}
 use borrow.Author.Needs.{needs}

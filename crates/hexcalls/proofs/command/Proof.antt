@@ -4,7 +4,6 @@ use mathlib.Core.Path.{ap, _∙_}
 use mathlib.Core.List.{List}
 use Prim.Native.Nat.{ℕ}
 use denote.Ref.{now}
-use lib.ListN.{replicate}
 use Rattle.rules.specs.Calls.{sends, call}
 use Rattle.rules.specs.Session.{state}
 use Rattle.hexcalls.proofs.Laws.{read-back, count-back, few-bytes, sends-few}

@@ -4,7 +4,6 @@ use mathlib.Core.Path.{ap, _∙_}
 use mathlib.Core.List.{List}
 use Prim.Native.Nat.{ℕ}
 use denote.Ref.{now}
-use lib.ListN.{replicate}
 use mathlib.Core.Bool.{false}
 use Rattle.rules.specs.Calls.{finishes, call}
 use Rattle.rules.specs.Session.{state}

@@ -1,6 +1,6 @@
 -- The command, and where it opened a job, its failure.
 -- Assumes nothing.
-use mathlib.Core.Path.{sym, _∙_}
+use mathlib.Core.Path.{_∙_}
 use denote.Ref.{now}
 use Rattle.rules.specs.Session.{state}
 use Rattle.text.specs.Text.{bytesOf}

@@ -6,8 +6,8 @@ use native.Mathlib.Omega.{arith}
 use borrow.Author.Needs.{needs}
 use denote.Ref.{now}
 use Rattle.rules.specs.Bytes.{part, zeros}
-use Rattle.rules.proofs.Lists.{length-part}
-use Rattle.octets.proofs.Laws.{lent, length-zeros}
+use Rattle.rules.proofs.Lists.{length-part, length-zeros}
+use Rattle.octets.proofs.Laws.{lent}
 use Rattle.octets.proofs.zero.Statement.{statement}
 use Rattle.octets.proofs.zero.Tie as tie
 

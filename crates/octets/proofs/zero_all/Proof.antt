@@ -8,7 +8,8 @@ use borrow.Author.Needs.{needs}
 use denote.Ref.{now}
 use lib.ListN.{length, take, drop, set, length-set}
 use Rattle.rules.specs.Bytes.{zeros}
-use Rattle.octets.proofs.Laws.{fill-step, fill-done, length-zeros, zeros-at}
+use Rattle.rules.proofs.Lists.{length-zeros}
+use Rattle.octets.proofs.Laws.{fill-step, fill-done, zeros-at}
 use Rattle.octets.proofs.zero_all.Statement.{statement}
 use Rattle.octets.proofs.zero_all.Tie as tie
 

@@ -1,6 +1,6 @@
 -- The row of refusals for a command: the first four, then 5.
 -- Assumes nothing.
-use mathlib.Core.Path.{ap, sym, _∙_}
+use mathlib.Core.Path.{sym, _∙_}
 use Rattle.rules.proofs.Tests.{on, off}
 use Rattle.permit.proofs.Row.{sends-row, refused, granted}
 use borrow.Author.Needs.{needs}

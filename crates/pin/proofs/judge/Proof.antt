@@ -1,7 +1,5 @@
 -- `pin::judge` meets its contract: the rule of each INS.
 -- Assumes nothing.
-use mathlib.Core.List.{List}
-use Prim.Native.Nat.{ℕ}
 use borrow.Author.Needs.{needs}
 use denote.Ref.{now}
 use Rattle.rules.specs.Pin.{Refs, refsIn}

@@ -1,7 +1,7 @@
 -- Up to Le more bytes.
 -- Assumes nothing.
 use borrow.Author.Needs.{needs}
-use mathlib.Core.Path.{_≡_, refl, ap, ap₂, sym, _∙_}
+use mathlib.Core.Path.{_≡_, refl, ap₂, _∙_}
 use mathlib.Core.List.{List, _++_}
 use Prim.Native.Nat.{ℕ, _+_}
 use native.Mathlib.Omega.{arith}
@@ -10,7 +10,6 @@ use borrow.Author.Tests.{le-leb}
 use Rattle.rules.specs.Bytes.{part, splice, word}
 use Rattle.rules.specs.Session.{holding}
 use Rattle.rules.specs.Held.{fetch}
-use Rattle.rules.specs.Calls.{outcome, delivered}
 use Rattle.rules.proofs.Tests.{on}
 use Rattle.saying.proofs.Laws.{delivers, same-outcome, length-of-part}
 use Rattle.sending.proofs.Laws.{part-fetched}

@@ -1,6 +1,6 @@
 -- The column of the interface, at the slot.
 -- Assumes nothing.
-use mathlib.Core.Path.{refl, sym, _∙_}
+use mathlib.Core.Path.{refl, sym}
 use borrow.Author.Needs.{needs}
 use Rattle.rules.specs.Session.{readable}
 use Rattle.rules.specs.Store.{never, contactRead, contactlessRead}

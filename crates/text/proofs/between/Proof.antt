@@ -1,6 +1,6 @@
 -- At least the first, and at most the last.
 -- Assumes nothing.
-use mathlib.Core.Path.{sym, refl, _∙_, ap}
+use mathlib.Core.Path.{sym, ap}
 use mathlib.Core.Bool.{Bool, _&&_}
 use lib.Dec.{leb}
 use borrow.Author.Tests.{lt-leb, le-leb}

@@ -1,12 +1,12 @@
 -- The loop's invariant: the first i bytes are those of the digits, the others as they were.
 -- Assumes nothing.
-use mathlib.Core.Path.{_≡_, refl, sym, ap, ap₂, _∙_}
+use mathlib.Core.Path.{_≡_, refl, sym, ap₂, _∙_}
 use mathlib.Core.List.{List, _++_}
-use Prim.Native.Nat.{ℕ, _+_, _*_, _-_, _≤_, _<_, _/_}
+use Prim.Native.Nat.{ℕ, _+_, _*_, _-_, _≤_, _<_}
 use denote.Ref.{now}
 use lib.ListN.{length, take, drop, set, getD, length-set}
 use Rattle.octets.proofs.Laws.{fill-step}
-use Rattle.text.specs.Text.{digitOf, bytesOf}
+use Rattle.text.specs.Text.{bytesOf}
 use Rattle.text.proofs.Laws.{digit-small, bytes-at, length-bytes, filled}
 use native.Mathlib.Omega.{arith}
 use borrow.Author.Needs.{needs}

@@ -4,7 +4,7 @@ use mathlib.Core.Path.{_≡_, refl, sym, ap, ap₂, _∙_}
 use mathlib.Core.List.{List, _++_}
 use Prim.Native.Nat.{ℕ, _+_, _*_, _-_, _≤_, _<_}
 use denote.Ref.{now}
-use lib.ListN.{length, take, drop, set, getD, length-set}
+use lib.ListN.{length, take, drop, set, length-set}
 use Rattle.octets.proofs.Laws.{fill-step, fill-done}
 use Rattle.text.specs.Text.{hexOf}
 use Rattle.text.proofs.Laws.{length-hex, hex-high, hex-low}

@@ -1,8 +1,7 @@
 -- The loop's invariant: the row is of digits where its rest from i on is.
 -- Assumes nothing.
-use mathlib.Core.Path.{_≡_, refl, sym, ap, _∙_}
-use mathlib.Core.Bool.{Bool, _&&_}
-use Prim.Native.Nat.{_+_, _-_, _≤_, _%_}
+use mathlib.Core.Path.{_≡_, refl, sym, _∙_}
+use Prim.Native.Nat.{_-_, _≤_, _%_}
 use denote.Ref.{now}
 use lib.Dec.{eqb}
 use lib.ListN.{length, drop}
@@ -10,7 +9,7 @@ use borrow.Author.Tests.{eq-eqb, ne-eqb}
 use Rattle.rules.specs.Bytes.{all}
 use Rattle.rules.proofs.Tests.{passes, fails, and-both, and-off-left, and-off-right}
 use Rattle.text.specs.Text.{isDigit, isHex}
-use Rattle.text.proofs.Laws.{all-at, all-end}
+use Rattle.octets.proofs.Laws.{all-on, all-off, all-end}
 use native.Mathlib.Omega.{arith}
 use borrow.Author.Needs.{needs}
 use Rattle.text.proofs.is_hex.Statement.{statement}
@@ -40,8 +39,8 @@ unfolding isHex
 returns-2 c =
     let l = c .before .before .before .before .loop in
     let s = now (c .before .before .before .before .before .before .before .args .l) in
-    sym (and-off-right (eqb (length s % 2) 0) _ (l .inv .1 ∙ all-at isDigit s (l .i) (c .before .before .before .loop-test .taken)
-    ∙ and-off-left _ _ (fails (c .before .is-digit .ensures) (c .if2 .taken))))
+    sym (and-off-right (eqb (length s % 2) 0) _ (l .inv .1
+    ∙ all-off isDigit s (l .i) (c .before .before .before .loop-test .taken) (fails (c .before .is-digit .ensures) (c .if2 .taken))))
 
 add-i : tie.Need-add-i Inv-loop μ-loop
 add-i c = omega arith
@@ -54,8 +53,7 @@ loop-again c =
     let l = c .before .before .before .before .loop in
     let s = now (c .before .before .before .before .before .before .before .args .l) in (
       omega arith,
-      l .inv .1 ∙ all-at isDigit s (l .i) (c .before .before .before .loop-test .taken)
-          ∙ ap (λ (t : Bool). t && all isDigit (drop (l .i + 1) s)) (passes (c .before .is-digit .ensures) (c .if2 .left)),
+      l .inv .1 ∙ all-on isDigit s (l .i) (c .before .before .before .loop-test .taken) (passes (c .before .is-digit .ensures) (c .if2 .left)),
     )
 
 returns-3 : tie.Need-returns-3 Inv-loop μ-loop

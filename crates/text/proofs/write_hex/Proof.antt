@@ -1,10 +1,8 @@
 -- The part that is lent comes back as the hex of the bytes.
 -- Assumes nothing.
-use mathlib.Core.Path.{_≡_, ap, _∙_}
-use mathlib.Core.List.{List}
-use Prim.Native.Nat.{ℕ, _+_, _*_, _-_, _≤_}
+use Prim.Native.Nat.{_+_, _*_, _-_}
 use denote.Ref.{now}
-use lib.ListN.{length, take, drop, length-take, length-drop}
+use lib.ListN.{length}
 use Rattle.octets.proofs.Laws.{lent}
 use Rattle.text.specs.Text.{hexOf}
 use Rattle.text.proofs.Laws.{length-hex}

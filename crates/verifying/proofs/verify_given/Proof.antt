@@ -1,6 +1,6 @@
 -- `verifying::verify_given` meets its contract: its tests are the rule's, and the steps made are those that the rule names.
 -- Assumes nothing.
-use mathlib.Core.Bool.{true, false}
+use mathlib.Core.Bool.{false}
 use mathlib.Core.List.{List}
 use Prim.Native.Nat.{ℕ}
 use native.Mathlib.Omega.{arith}
