@@ -27,7 +27,7 @@ use Rattle.rules.specs.Keys.{resultOk, resultFits}
 use Rattle.rules.specs.Held.{calm}
 use Rattle.rules.specs.Calls.{obeyed, command, illSession, shortResponse, interrupts, unasked, wrongResult, permit, granted, denied, lent, keptSession, decided, call, delivered, sends, finishes}
 use Rattle.rules.proofs.Tests.{on, either, or-right, and-off-right, by-order}
-use Rattle.card.proofs.Laws.{granted-facts}
+use Rattle.rules.proofs.Permits.{granted-lets}
 use Rattle.text.specs.Text.{bytesOf}
 use Rattle.text.proofs.Laws.{length-bytes}
 
@@ -95,7 +95,7 @@ result-long (Running key alg le) r h =
 module _ (st : State) (resp r q : List ℕ) (hr : resultFits (st .session .job) r ≡ false) (hq : resultFits (st .session .job) q ≡ false) where
   never : permit st (finishes resp false r) ≡ Granted → ⊥
   unfolding wrongResult
-  never e = true≢false (sym (ap not hr) ∙ granted-facts st (finishes resp false r) e .right)
+  never e = true≢false (sym (ap not hr) ∙ granted-lets st (finishes resp false r) e .result)
 
   same-permit : permit st (finishes resp false r) ≡ permit st (finishes resp false q)
   unfolding permit illSession shortResponse interrupts unasked wrongResult
