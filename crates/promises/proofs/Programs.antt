@@ -1,22 +1,29 @@
 -- Programs: the same of the public functions that the programs are built of (Once says how to read it).
 --
--- What `text::keep`, `lines::bad`, `hexlines::answer`, `placing::place` and `probelines::answer` promise is an equation of what is seen, which has the
--- parts of the outcome side by side, so it leaves one in the same way.
+--   by-kept by-placed by-seen    what is seen has the parts of the outcome side by side
+--
 -- Assumes nothing.
-use mathlib.Core.Path.{_≡_}
+use mathlib.Core.Path.{_≡_, ap, ap₂}
 use mathlib.Core.Bool.{Bool}
-use mathlib.Core.List.{List}
+use mathlib.Core.List.{List, []}
 use Prim.Native.Nat.{ℕ}
 use denote.Ref.{RefT, now}
 use Rattle.rules.specs.declared.Reply.{Reply}
+use Rattle.rules.specs.declared.Session.{Session}
+use Rattle.text.specs.Text.{Kept, kept}
+use Rattle.lines.specs.declared.Said.{Said}
+use Rattle.lines.specs.Seen.{Seen, seen}
+use Rattle.placing.specs.Placing.{Placed, placed}
 use Rattle.packed.specs.declared.Taken.{Taken}
 use Rattle.verbs.specs.declared.Verb.{Verb}
 use Rattle.issued.proofs.fixed_card.Reads as issued-fixed-card
 use Rattle.text.proofs.is_hex.Reads as text-is-hex
 use Rattle.text.proofs.read_hex.Reads as text-read-hex
 use Rattle.text.proofs.write_hex.Reads as text-write-hex
+use Rattle.text.proofs.keep.Reads as text-keep
 use Rattle.lines.proofs.first.Reads as lines-first
 use Rattle.lines.proofs.after.Reads as lines-after
+use Rattle.lines.proofs.bad.Reads as lines-bad
 use Rattle.hexcalls.proofs.command.Reads as hexcalls-command
 use Rattle.hexcalls.proofs.job_result.Reads as hexcalls-job-result
 use Rattle.packed.proofs.pack.Reads as packed-pack
@@ -25,7 +32,26 @@ use Rattle.sums.proofs.sum.Reads as sums-sum
 use Rattle.sums.proofs.write_decimal.Reads as sums-write-decimal
 use Rattle.outcomes.proofs.write.Reads as outcomes-write
 use Rattle.verbs.proofs.verb_of.Reads as verbs-verb-of
+use Rattle.placing.proofs.place.Reads as placing-place
+use Rattle.hexlines.proofs.answer.Reads as hexlines-answer
+use Rattle.probelines.proofs.answer.Reads as probelines-answer
 use Rattle.promises.proofs.Once.{alike, by-outcome}
+
+by-kept : {n m : ℕ} {x y : List ℕ} {z : Kept} → kept n x ≡ z → kept m y ≡ z → (n ≡ m) × (x ≡ y)
+by-kept p q = let e = alike _ _ p q in (ap (λ (k : Kept). k .len) e, ap (λ (k : Kept). k .bytes) e)
+
+by-placed : {n m : Bool} {x y : List ℕ} {z : Placed} → placed n x ≡ z → placed m y ≡ z → (n ≡ m) × (x ≡ y)
+by-placed p q = let e = alike _ _ p q in (ap (λ (k : Placed). k .ok) e, ap (λ (k : Placed). k .bytes) e)
+
+said : Session → ℕ → Said
+said ss n = record { session = ss; len = n }
+
+by-seen : {r q : Said} {s t w v p b o d : List ℕ} {z : Seen} → seen (r .session) s w p (r .len) o ≡ z → seen (q .session) t v b (q .len) d ≡ z
+    → (r ≡ q) × (s ≡ t) × (w ≡ v) × (p ≡ b) × (o ≡ d)
+unfolding said
+by-seen x y =
+    let e = alike _ _ x y in
+    (ap₂ said (ap (λ (k : Seen). k .session) e) (ap (λ (k : Seen). k .len) e), ap (λ (k : Seen). k .store) e, ap (λ (k : Seen). k .work) e, ap (λ (k : Seen). k .resp) e, ap (λ (k : Seen). k .out) e)
 
 -- ---- issued
 
@@ -43,6 +69,9 @@ once-text-read-hex κs a s t = alike _ _
 once-text-write-hex : (κs : _) (a : _) (r q : ℕ) (s t : _) → text-write-hex.Post κs a r s → text-write-hex.Post κs a q t → (r ≡ q) × (now (s .0) ≡ now (t .0))
 once-text-write-hex κs a r q s t x y = (alike r q (x .0) (y .0), alike _ _ (x .1) (y .1))
 
+once-text-keep : (κs : _) (a : _) (r q : ℕ) (s t : _) → text-keep.Post κs a r s → text-keep.Post κs a q t → (r ≡ q) × (now (s .0) ≡ now (t .0))
+once-text-keep κs a r q s t x y = by-kept x y
+
 -- ---- lines
 
 once-lines-first : (κs : _) (a : _) (r q : RefT (List ℕ)) (s t : _) → lines-first.Post κs a r s → lines-first.Post κs a q t → now r ≡ now q
@@ -50,6 +79,9 @@ once-lines-first κs a r q s t = alike _ _
 
 once-lines-after : (κs : _) (a : _) (r q : RefT (List ℕ)) (s t : _) → lines-after.Post κs a r s → lines-after.Post κs a q t → now r ≡ now q
 once-lines-after κs a r q s t = alike _ _
+
+once-lines-bad : (κs : _) (a : _) (r q : Said) (s t : _) → lines-bad.Post κs a r s → lines-bad.Post κs a q t → (r ≡ q) × (now (s .1 .0) ≡ now (t .1 .0))
+once-lines-bad κs a r q s t x y = let e = by-seen (x [] [] []) (y [] [] []) in (e .0, e .4)
 
 -- ---- hexcalls
 
@@ -84,3 +116,18 @@ once-outcomes-write κs a r q s t x y = (alike r q (x .0) (y .0), alike _ _ (x .
 
 once-verbs-verb-of : (κs : _) (a : _) (r q : Verb) (s t : _) → verbs-verb-of.Post κs a r s → verbs-verb-of.Post κs a q t → r ≡ q
 once-verbs-verb-of κs a r q s t = alike r q
+
+-- ---- placing
+
+once-placing-place : (κs : _) (a : _) (r q : Bool) (s t : _) → placing-place.Post κs a r s → placing-place.Post κs a q t → (r ≡ q) × (now (s .0) ≡ now (t .0))
+once-placing-place κs a r q s t x y = by-placed x y
+
+-- ---- what a line comes to
+
+once-hexlines-answer : (κs : _) (a : _) (r q : Said) (s t : _) → hexlines-answer.Post κs a r s → hexlines-answer.Post κs a q t
+    → (r ≡ q) × (now (s .1 .0) ≡ now (t .1 .0)) × (now (s .1 .1 .0) ≡ now (t .1 .1 .0)) × (now (s .1 .1 .1 .0) ≡ now (t .1 .1 .1 .0)) × (now (s .1 .1 .1 .1 .1 .0) ≡ now (t .1 .1 .1 .1 .1 .0))
+once-hexlines-answer κs a r q s t x y = by-seen x y
+
+once-probelines-answer : (κs : _) (a : _) (r q : Said) (s t : _) → probelines-answer.Post κs a r s → probelines-answer.Post κs a q t
+    → (r ≡ q) × (now (s .1 .0) ≡ now (t .1 .0)) × (now (s .1 .1 .0) ≡ now (t .1 .1 .0)) × (now (s .1 .1 .1 .0) ≡ now (t .1 .1 .1 .0)) × (now (s .1 .1 .1 .1 .1 .0) ≡ now (t .1 .1 .1 .1 .1 .0))
+once-probelines-answer κs a r q s t x y = by-seen x y
