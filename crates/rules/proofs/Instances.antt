@@ -30,10 +30,11 @@ use Rattle.rules.specs.Runs.{leaves, run, endOf}
 use Rattle.rules.specs.Claims.Starred.{hex, issued, storeOf, fixedCard, fixed, tell, done, wrong, right, printed, asks, makes, reply, first, last}
 use Rattle.rules.specs.Claims.Words.{checkWords, words, Tells}
 use Rattle.rules.specs.Claims.Invariants.{Plain, Sane}
+use Rattle.rules.specs.Claims.Working.{ledger}
 use Rattle.rules.specs.Claims.ReadBack.{tagBytesOf, tagList, putField, wordOf, Puts, Pieces, next, refused, Untouched, Ends, Answers, reading, joined, lastWord}
 use Rattle.rules.specs.Claims.ReadBack.{last as end}
 use Rattle.rules.specs.Claims.Secrecy.{noEqual, within, inPinRead, pinRead, secret, Alike, NoneEqual, AllSame}
-use Rattle.rules.specs.Claims.Instances.{before, otherPins, other, guesses, login, issuing, pieces, stored, two, rest, Holds}
+use Rattle.rules.specs.Claims.Instances.{before, otherPins, other, guesses, login, issuing, pieces, stored, two, rest, Holds, opening}
 use Rattle.rules.proofs.Tests.{off, and-both, or-left, or-right, or-other, at-each, by-order}
 use Rattle.rules.proofs.Tests.{on as on-true}
 use Rattle.rules.proofs.Lists.{length-splice, splice-before, splice-after}
@@ -47,6 +48,7 @@ use Rattle.rules.proofs.Permits.{lets-granted, power-granted}
 use Rattle.rules.proofs.Kept.{Well}
 use Rattle.rules.proofs.Cards.{fair, bare-blank, card-well, fixed-fair, fixed-well, power-is}
 use Rattle.rules.proofs.Invariants.{powered-well, call-kept, invariants}
+use Rattle.rules.proofs.Working.{working}
 use Rattle.rules.proofs.Secrecy.{secrecy}
 use Rattle.rules.proofs.ReadBack.{back-again}
 
@@ -209,6 +211,14 @@ unfolding before
 sane-card =
     invariants .always fixed (replicate workSize 0xAA) (cleared true) false (granted-on fixed fixed-well) (wrong ∷ right ∷ printed ∷ [])
     (tell-plain 13 0x0020008008_313233343537FFFF refl, (tell-plain 13 0x0020008008_313233343536FFFF refl, (tell-plain 11 0x00CB3FFF055C035FC10900 refl, tt)))
+
+working-card : endOf (before fixed) (powers false ∷ opening) .work
+    ≡ ledger (before fixed) [] (powers false ∷ opening) ++ zeros (workSize - length (ledger (before fixed) [] (powers false ∷ opening)))
+unfolding before
+working-card =
+    working .work fixed (replicate workSize 0xAA) (cleared true) false (granted-on fixed fixed-well) opening
+    (tell-plain 10 0x0087009B04_7C028100_00 refl, (tt, (tell-plain 17 0x0087009B0C_7C0A82081112131415161718 refl, (tell-plain 11 0x10DB3FFF06_5C035FC10753 refl, tt))))
+    (ledger (state fixed (replicate workSize 0xAA) (cleared true)) [] (powers false ∷ opening)) refl
 
 -- ---- the administrator's login
 
@@ -387,6 +397,7 @@ instances = record {
   passed = told-words;
   refusals = refusals (state fixed (zeros 5) (cleared false)) (powers true) WrongWork wrong-work;
   invariants = sane-card;
+  working = working-card;
   issued = issued-is;
   kept = kept-is;
   readBack = stored-object;

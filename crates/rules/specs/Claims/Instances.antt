@@ -4,16 +4,17 @@
 --   other                 a card that differs from `fixed` in PIN, PUK and printed information
 --   guesses               what a finder may try: the printed information, and a wrong PIN
 --   issuing               the card `fixed` after the administrator's login
+--   opening               a login, and the first piece of a PUT DATA
 --   pieces                a PUT DATA in two pieces, with a refused call between them
 --   stored                the card after them and a further power-on
 --   Holds                 the claim
 --
--- The premises of Working are those of Invariants. Assumes nothing.
+-- Assumes nothing.
 use mathlib.Core.Path.{_≡_}
 use mathlib.Core.Bool.{true, false}
-use mathlib.Core.List.{List, [], _∷_}
-use Prim.Native.Nat.{ℕ}
-use lib.ListN.{replicate}
+use mathlib.Core.List.{List, [], _∷_, _++_}
+use Prim.Native.Nat.{ℕ, _-_}
+use lib.ListN.{length, replicate}
 use Rattle.rules.specs.declared.Refusal.the-variants.{WrongWork}
 use Rattle.rules.specs.Bytes.{zeros}
 use Rattle.rules.specs.Store.{workSize, putObject}
@@ -24,6 +25,7 @@ use Rattle.rules.specs.Claims.Starred.{hex, Card, issued, filled, storeO
 use Rattle.rules.specs.Claims.Words.{checkWords, words, Tells}
 use Rattle.rules.specs.Claims.Refusals.{Kept}
 use Rattle.rules.specs.Claims.Invariants.{Sane}
+use Rattle.rules.specs.Claims.Working.{ledger}
 use Rattle.rules.specs.Claims.ReadBack.{absent, byte, Ask, reading, joined, lastWord}
 use Rattle.rules.specs.Claims.Secrecy.{AllSame}
 
@@ -45,6 +47,9 @@ guesses = printed ∷ wrong ∷ []
 
 abbrev pub login : List Call
 login = asks ∷ makes ∷ reply ∷ []
+
+abbrev pub opening : List Call
+opening = asks ∷ makes ∷ reply ∷ first ∷ []
 
 unfoldable pub issuing : State
 issuing = state fixed (zeros workSize) (withAdmin (cleared false) true)
@@ -70,6 +75,8 @@ pub record Holds : Type 0 where
   pub passed : Tells (words 0x20) ((command (state fixed (zeros workSize) (cleared false)) (hex 13 0x0020008008_313233343537FFFF)) .told)
   pub refusals : Kept (state fixed (zeros 5) (cleared false)) (powers true) WrongWork
   pub invariants : Sane (endOf (before fixed) (powers false ∷ wrong ∷ right ∷ printed ∷ []))
+  pub working : endOf (before fixed) (powers false ∷ opening) .work
+      ≡ ledger (before fixed) [] (powers false ∷ opening) ++ zeros (workSize - length (ledger (before fixed) [] (powers false ∷ opening)))
   pub issued : issuing ≡ endOf (before fixed) (powers false ∷ login)
   pub kept : stored ≡ endOf (endOf issuing pieces) (powers false ∷ [])
   pub readBack : (joined (run stored (reading 0 two (rest ∷ []))) ≡ hex 4 0x53020809) × (lastWord (run stored (reading 0 two (rest ∷ []))) ≡ 0x9000)
