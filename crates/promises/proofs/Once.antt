@@ -79,7 +79,6 @@ use Rattle.table.proofs.readable.Reads as table-readable
 use Rattle.table.proofs.takes.Reads as table-takes
 use Rattle.pinform.proofs.pin_form.Reads as pinform-pin-form
 use Rattle.pinform.proofs.puk_form.Reads as pinform-puk-form
-use Rattle.reference.proofs.record_ok.Reads as reference-record-ok
 use Rattle.reference.proofs.left.Reads as reference-left
 use Rattle.reference.proofs.equals.Reads as reference-equals
 use Rattle.reference.proofs.restore.Reads as reference-restore
@@ -296,9 +295,6 @@ once-pinform-puk-form : (κs : _) (a : _) (r q : Bool) (s t : _) → pinform-puk
 once-pinform-puk-form κs a r q s t = alike r q
 
 -- ---- reference
-
-once-reference-record-ok : (κs : _) (a : _) (r q : Bool) (s t : _) → reference-record-ok.Post κs a r s → reference-record-ok.Post κs a q t → r ≡ q
-once-reference-record-ok κs a r q s t = alike r q
 
 once-reference-left : (κs : _) (a : _) (r q : ℕ) (s t : _) → reference-left.Post κs a r s → reference-left.Post κs a q t → r ≡ q
 once-reference-left κs a r q s t = alike r q

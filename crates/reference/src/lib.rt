@@ -3,25 +3,9 @@
 ghost use mathlib.Core.Path.{_≡_};
 ghost use Prim.Native.Nat.{_-_};
 ghost use lib.ListN.{length};
-ghost use Rattle.rules.specs.Reference.{referenceOk, matches, charged, restored, renewed, referenceAt, putReference};
+ghost use Rattle.rules.specs.Reference.{matches, charged, restored, renewed, referenceAt, putReference};
 
 // ---- the ten bytes read
-
-// 01: the limit is 1 to 15, the tries left 0 to the limit.
-pub fn record_ok(ten: &[u8]) -> bool
-    requires { ⌜ length (now ten) ≡ 10 ⌝ }
-    ensures { λ r. ⌜ r ≡ referenceOk (referenceAt (now (ten .entry)) 0) ⌝ }
-{
-    let limit = ten[0];
-    if limit < 1 {
-        return false;
-    }
-    if 15 < limit {
-        return false;
-    }
-    let left = ten[1];
-    left <= limit
-}
 
 pub fn left(ten: &[u8]) -> u8
     requires { ⌜ length (now ten) ≡ 10 ⌝ }

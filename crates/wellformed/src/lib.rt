@@ -17,12 +17,20 @@ fn marked(store: &[u8]) -> bool
     numbers::be64(store, 0) == MARK
 }
 
+// The limit is 1 to 15, the tries left 0 to the limit.
 fn reference_ok(store: &[u8], at: usize) -> bool
     requires { ⌜ at + 10 ≤ length (now store) ⌝ }
     ensures { λ r. ⌜ r ≡ referenceOk (referenceAt (now (store .entry)) at) ⌝ }
 {
-    let end = at + 10;
-    reference::record_ok(&store[at..end])
+    let limit = store[at];
+    if limit < 1 {
+        return false;
+    }
+    if 15 < limit {
+        return false;
+    }
+    let left = store[at + 1];
+    left <= limit
 }
 
 // The stored PIN has PIN form.
