@@ -1,4 +1,6 @@
-// A command by its own rules (01, "Command by command"): what it drops, and which rule answers it.
+// A command by its own rules (01, "Command by command"). Here what it drops, and which rule answers it; answers has SELECT and GET RESPONSE.
+mod answers;
+
 use rules::Challenge;
 use rules::Header;
 use rules::Reply;

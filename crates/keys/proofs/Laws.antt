@@ -22,7 +22,7 @@ use Rattle.rules.specs.Held.{dropped, gathered, heldPiece, closed, piece}
 use Rattle.rules.specs.Keys.{authEach}
 use Rattle.rules.specs.Keys.{authWhole, authPiece}
 use Rattle.held.proofs.Laws.{closed-state, shut-state, gathered-open, gathered-shut, piece-bad, piece-more, piece-last}
-use Rattle.keyuse.proofs.Laws.{each-total}
+use Rattle.keys.proofs.keyuse.Laws.{each-total}
 
 module _ (ch : Challenge) (h : Header) (m w d : List ℕ) (s t : Session) (q : t ≡ holding s Shut Gone) where
   pub last-open : (ins p1 p2 n : ℕ) → s .chain ≡ Open ins p1 p2 n

@@ -1,4 +1,9 @@
-// GENERAL AUTHENTICATE (01, under this name): its pieces, one by one.
+// GENERAL AUTHENTICATE (01, under this name). Here its pieces, one by one; keyuse says whether a key may be used, template what the whole comes
+// to, and forms which forms the template may have.
+mod forms;
+mod keyuse;
+mod template;
+
 use rules::Chain;
 use rules::Challenge;
 use rules::Header;

@@ -1,5 +1,13 @@
-// The commands on references, VERIFY, CHANGE REFERENCE DATA and RESET RETRY COUNTER, as whole commands: which rule judges, what is
-// dropped, and the status word that goes out.
+// VERIFY, CHANGE REFERENCE DATA and RESET RETRY COUNTER (01, under these names). Here they are whole commands: which rule judges, what is dropped,
+// and the status word that goes out. The rules are in verifying, changing and resetting; below them a value compared (attempt) and the
+// steps on the store (tries, values).
+mod attempt;
+mod changing;
+mod resetting;
+mod tries;
+mod values;
+mod verifying;
+
 use rules::Header;
 use rules::Judged;
 use rules::Reply;

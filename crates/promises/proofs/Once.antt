@@ -4,47 +4,37 @@
 -- the end, s. Two outcomes for the same arguments are the same, by the lemma for all promises of this form (rules, Claims/NoSecond): the same result,
 -- and the same bytes behind each reference that is lent to be written.
 --
--- `permit` promises for every store that is well formed, or is not, and `storing::put_whole` promises a word by its two bytes: both still leave one.
+-- `permit` promises for every store that is well formed, or is not: that still leaves one.
 -- Assumes nothing.
 use mathlib.Core.Path.{_≡_, refl, sym, ap}
-use mathlib.Core.Bool.{Bool, true, false, true≢false, false≢true}
+use mathlib.Core.Bool.{Bool, true, false}
 use mathlib.Core.List.{List, []}
-use Prim.Native.Nat.{ℕ, _<_, _/_, _%_}
+use Prim.Native.Nat.{ℕ}
 use native.Mathlib.Omega.{arith}
-use lib.ListN.{getD}
 use denote.Ref.{RefT, now}
-use Rattle.rules.specs.declared.Admin.{Admin}
-use Rattle.rules.specs.declared.Answer.the-variants.{Response, JobOpened}
+use Rattle.rules.specs.declared.Answer.the-variants.{Response}
 use Rattle.rules.specs.declared.Checked.{Checked}
 use Rattle.rules.specs.declared.Found.{Found}
-use Rattle.rules.specs.declared.Judged.{Judged}
 use Rattle.rules.specs.declared.Reply.{Reply}
 use Rattle.rules.specs.declared.Session.{Session}
 use Rattle.rules.specs.declared.Chain.the-variants.{Shut}
 use Rattle.rules.specs.declared.Rest.the-variants.{Gone, Left}
 use Rattle.rules.specs.declared.Challenge.the-variants.{Unasked}
-use Rattle.rules.specs.declared.Job.the-variants.{Idle, Running}
+use Rattle.rules.specs.declared.Job.the-variants.{Idle}
 use Rattle.rules.specs.declared.Permit.{Permit}
-use Rattle.rules.specs.Bytes.{zeros, splice, word}
+use Rattle.rules.specs.Bytes.{zeros}
 use Rattle.rules.specs.Book.{book}
 use Rattle.rules.specs.Store.{wellFormed}
 use Rattle.rules.specs.Claims.Starred.{fixed}
-use Rattle.rules.specs.Session.{State, state, withAdmin}
-use Rattle.rules.specs.Pin.{Judgement, judgement}
+use Rattle.rules.specs.Session.{State, state}
 use Rattle.rules.specs.Calls.{Outcome, outcome, reply}
 use Rattle.rules.specs.Claims.NoSecond.{Shows}
 use Rattle.rules.proofs.NoSecond.{no-second}
 use Rattle.rules.proofs.Cards.{fixed-well}
 use Rattle.rules.proofs.Lists.{length-zeros}
-use Rattle.tries.specs.declared.PinTries.{PinTries}
-use Rattle.tries.specs.declared.PukTries.{PukTries}
-use Rattle.attempt.specs.declared.Tried.{Tried}
 use Rattle.sending.specs.declared.Sent.{Sent}
 use Rattle.sending.specs.declared.Sent.the-variants.{All, First}
 use Rattle.sending.specs.Replies.{sentReply}
-use Rattle.template.specs.declared.Auth.{Auth}
-use Rattle.template.specs.declared.Auth.the-variants.{Said, Knows, Opens}
-use Rattle.template.specs.Replies.{authReply}
 use Rattle.octets.proofs.same.Reads as octets-same
 use Rattle.octets.proofs.part.Reads as octets-part
 use Rattle.octets.proofs.put.Reads as octets-put
@@ -84,23 +74,6 @@ use Rattle.reference.proofs.equals.Reads as reference-equals
 use Rattle.reference.proofs.restore.Reads as reference-restore
 use Rattle.reference.proofs.renew.Reads as reference-renew
 use Rattle.reference.proofs.charge.Reads as reference-charge
-use Rattle.tries.proofs.restore_pin.Reads as tries-restore-pin
-use Rattle.tries.proofs.restore_puk.Reads as tries-restore-puk
-use Rattle.tries.proofs.pin_left.Reads as tries-pin-left
-use Rattle.tries.proofs.charge_pin.Reads as tries-charge-pin
-use Rattle.tries.proofs.puk_left.Reads as tries-puk-left
-use Rattle.tries.proofs.charge_puk.Reads as tries-charge-puk
-use Rattle.values.proofs.new_pin.Reads as values-new-pin
-use Rattle.values.proofs.new_puk.Reads as values-new-puk
-use Rattle.values.proofs.pin_is.Reads as values-pin-is
-use Rattle.values.proofs.puk_is.Reads as values-puk-is
-use Rattle.attempt.proofs.halves.Reads as attempt-halves
-use Rattle.attempt.proofs.tries_word.Reads as attempt-tries-word
-use Rattle.attempt.proofs.try_pin.Reads as attempt-try-pin
-use Rattle.attempt.proofs.try_puk.Reads as attempt-try-puk
-use Rattle.verifying.proofs.verify.Reads as verifying-verify
-use Rattle.changing.proofs.change.Reads as changing-change
-use Rattle.resetting.proofs.reset.Reads as resetting-reset
 use Rattle.pin.proofs.command.Reads as pin-command
 use Rattle.wellformed.proofs.well_formed.Reads as wellformed-well-formed
 use Rattle.store.proofs.algorithm.Reads as store-algorithm
@@ -116,16 +89,8 @@ use Rattle.sending.proofs.told.Reads as sending-told
 use Rattle.sending.proofs.fetch.Reads as sending-fetch
 use Rattle.apdu.proofs.check.Reads as apdu-check
 use Rattle.apdu.proofs.field.Reads as apdu-field
-use Rattle.answers.proofs.select.Reads as answers-select
-use Rattle.answers.proofs.get_response.Reads as answers-get-response
 use Rattle.objects.proofs.get_data.Reads as objects-get-data
-use Rattle.storing.proofs.put_whole.Reads as storing-put-whole
 use Rattle.putting.proofs.put_data.Reads as putting-put-data
-use Rattle.forms.proofs.admin_form.Reads as forms-admin-form
-use Rattle.forms.proofs.key_form.Reads as forms-key-form
-use Rattle.keyuse.proofs.each.Reads as keyuse-each
-use Rattle.template.proofs.whole.Reads as template-whole
-use Rattle.template.proofs.told.Reads as template-told
 use Rattle.keys.proofs.authenticate.Reads as keys-authenticate
 use Rattle.jobs.proofs.finish.Reads as jobs-finish
 use Rattle.commands.proofs.rule.Reads as commands-rule
@@ -139,9 +104,6 @@ itself = record { back = λ o. o; same = λ o. refl }
 
 pub alike : {A : Type 0} {z : A} (x y : A) → x ≡ z → y ≡ z → x ≡ y
 alike {A} {z} x y = no-second (Unit {0}) A A (λ o. o) itself (λ _. z) tt x y
-
-by-judgement : {r q : Judged} {x y : List ℕ} {z : Judgement} → judgement r x ≡ z → judgement q y ≡ z → (r ≡ q) × (x ≡ y)
-by-judgement p q = let e = alike _ _ p q in (ap (λ (j : Judgement). j .judged) e, ap (λ (j : Judgement). j .store) e)
 
 by-state : {r q : Session} {m x y : List ℕ} {z : State} → state m x r ≡ z → state m y q ≡ z → (r ≡ q) × (x ≡ y)
 by-state p q = let e = alike _ _ p q in (ap (λ (j : State). j .session) e, ap (λ (j : State). j .work) e)
@@ -311,67 +273,6 @@ once-reference-renew κs a s t = alike _ _
 once-reference-charge : (κs : _) (a : _) (r q : ℕ) (s t : _) → reference-charge.Post κs a r s → reference-charge.Post κs a q t → (r ≡ q) × (now (s .0) ≡ now (t .0))
 once-reference-charge κs a r q s t x y = (alike r q (x .1) (y .1), alike _ _ (x .0) (y .0))
 
--- ---- tries
-
-once-tries-restore-pin : (κs : _) (a : _) (s t : _) → tries-restore-pin.Post κs a tt s → tries-restore-pin.Post κs a tt t → now (s .0) ≡ now (t .0)
-once-tries-restore-pin κs a s t x y = alike _ _ (x false) (y false)
-
-once-tries-restore-puk : (κs : _) (a : _) (s t : _) → tries-restore-puk.Post κs a tt s → tries-restore-puk.Post κs a tt t → now (s .0) ≡ now (t .0)
-once-tries-restore-puk κs a s t x y = alike _ _ (x false) (y false)
-
-once-tries-pin-left : (κs : _) (a : _) (r q : PinTries) (s t : _) → tries-pin-left.Post κs a r s → tries-pin-left.Post κs a q t → r .0 ≡ q .0
-once-tries-pin-left κs a r q s t x y = alike _ _ (x false) (y false)
-
-once-tries-charge-pin : (κs : _) (a : _) (r q : PinTries) (s t : _) → tries-charge-pin.Post κs a r s → tries-charge-pin.Post κs a q t → (r .0 ≡ q .0) × (now (s .0) ≡ now (t .0))
-once-tries-charge-pin κs a r q s t x y = (alike _ _ (x .1) (y .1), alike _ _ (x .0 false) (y .0 false))
-
-once-tries-puk-left : (κs : _) (a : _) (r q : PukTries) (s t : _) → tries-puk-left.Post κs a r s → tries-puk-left.Post κs a q t → r .0 ≡ q .0
-once-tries-puk-left κs a r q s t x y = alike _ _ (x false) (y false)
-
-once-tries-charge-puk : (κs : _) (a : _) (r q : PukTries) (s t : _) → tries-charge-puk.Post κs a r s → tries-charge-puk.Post κs a q t → (r .0 ≡ q .0) × (now (s .0) ≡ now (t .0))
-once-tries-charge-puk κs a r q s t x y = (alike _ _ (x .1) (y .1), alike _ _ (x .0 false) (y .0 false))
-
--- ---- values
-
-once-values-new-pin : (κs : _) (a : _) (s t : _) → values-new-pin.Post κs a tt s → values-new-pin.Post κs a tt t → now (s .0) ≡ now (t .0)
-once-values-new-pin κs a s t x y = alike _ _ (x false) (y false)
-
-once-values-new-puk : (κs : _) (a : _) (s t : _) → values-new-puk.Post κs a tt s → values-new-puk.Post κs a tt t → now (s .0) ≡ now (t .0)
-once-values-new-puk κs a s t x y = alike _ _ (x false) (y false)
-
-once-values-pin-is : (κs : _) (a : _) (r q : Bool) (s t : _) → values-pin-is.Post κs a r s → values-pin-is.Post κs a q t → r ≡ q
-once-values-pin-is κs a r q s t x y = alike r q (x false) (y false)
-
-once-values-puk-is : (κs : _) (a : _) (r q : Bool) (s t : _) → values-puk-is.Post κs a r s → values-puk-is.Post κs a q t → r ≡ q
-once-values-puk-is κs a r q s t x y = alike r q (x false) (y false)
-
--- ---- attempt
-
-once-attempt-halves : (κs : _) (a : _) (r q : ℕ) (s t : _) → attempt-halves.Post κs a r s → attempt-halves.Post κs a q t → r ≡ q
-once-attempt-halves κs a r q s t = alike r q
-
-once-attempt-tries-word : (κs : _) (a : _) (r q : ℕ) (s t : _) → attempt-tries-word.Post κs a r s → attempt-tries-word.Post κs a q t → r ≡ q
-once-attempt-tries-word κs a r q s t = alike r q
-
-once-attempt-try-pin : (κs : _) (a : _) (r q : Tried) (s t : _) → attempt-try-pin.Post κs a r s → attempt-try-pin.Post κs a q t → (r ≡ q) × (now (s .0) ≡ now (t .0))
-once-attempt-try-pin κs a r q s t x y = (alike r q (x .1) (y .1), alike _ _ (x .0 false) (y .0 false))
-
-once-attempt-try-puk : (κs : _) (a : _) (r q : Tried) (s t : _) → attempt-try-puk.Post κs a r s → attempt-try-puk.Post κs a q t → (r ≡ q) × (now (s .0) ≡ now (t .0))
-once-attempt-try-puk κs a r q s t x y = (alike r q (x .1) (y .1), alike _ _ (x .0 false) (y .0 false))
-
--- ---- verifying
-
-once-verifying-verify : (κs : _) (a : _) (r q : Judged) (s t : _) → verifying-verify.Post κs a r s → verifying-verify.Post κs a q t → (r ≡ q) × (now (s .0) ≡ now (t .0))
-once-verifying-verify κs a r q s t x y = by-judgement x y
-
--- ---- changing
-
-once-changing-change : (κs : _) (a : _) (r q : Judged) (s t : _) → changing-change.Post κs a r s → changing-change.Post κs a q t → (r ≡ q) × (now (s .0) ≡ now (t .0))
-once-changing-change κs a r q s t x y = by-judgement x y
-
-once-resetting-reset : (κs : _) (a : _) (r q : Judged) (s t : _) → resetting-reset.Post κs a r s → resetting-reset.Post κs a q t → (r ≡ q) × (now (s .0) ≡ now (t .0))
-once-resetting-reset κs a r q s t x y = by-judgement x y
-
 -- ---- pin
 
 once-pin-command : (κs : _) (a : _) (r q : Reply) (s t : _) → pin-command.Post κs a r s → pin-command.Post κs a q t → (r ≡ q) × (now (s .1 .0) ≡ now (t .1 .0)) × (now (s .1 .1 .0) ≡ now (t .1 .1 .0)) × (now (s .1 .1 .1 .0) ≡ now (t .1 .1 .1 .0))
@@ -452,90 +353,15 @@ once-apdu-check κs a r q s t = alike r q
 once-apdu-field : (κs : _) (a : _) (r q : RefT (List ℕ)) (s t : _) → apdu-field.Post κs a r s → apdu-field.Post κs a q t → now r ≡ now q
 once-apdu-field κs a r q s t = alike _ _
 
--- ---- answers
-
-once-answers-select : (κs : _) (a : _) (r q : Reply) (s t : _) → answers-select.Post κs a r s → answers-select.Post κs a q t → (r ≡ q) × (now (s .1 .0) ≡ now (t .1 .0)) × (now (s .1 .1 .0) ≡ now (t .1 .1 .0))
-once-answers-select κs a r q s t x y = let e = by-outcome (x []) (y []) in (e .0, e .2, e .3)
-
-once-answers-get-response : (κs : _) (a : _) (r q : Reply) (s t : _) → answers-get-response.Post κs a r s → answers-get-response.Post κs a q t → (r ≡ q) × (now (s .1 .0) ≡ now (t .1 .0)) × (now (s .1 .1 .0) ≡ now (t .1 .1 .0))
-once-answers-get-response κs a r q s t x y = let e = by-outcome (x []) (y []) in (e .0, e .2, e .3)
-
 -- ---- objects
 
 once-objects-get-data : (κs : _) (a : _) (r q : Reply) (s t : _) → objects-get-data.Post κs a r s → objects-get-data.Post κs a q t → (r ≡ q) × (now (s .1 .1 .0) ≡ now (t .1 .1 .0)) × (now (s .1 .1 .1 .0) ≡ now (t .1 .1 .1 .0))
 once-objects-get-data κs a r q s t x y = let e = by-outcome x y in (e .0, e .2, e .3)
 
--- ---- storing
-
-same-word : (r q : ℕ) → r < 65536 → q < 65536 → splice [] 0 (word r) ≡ splice [] 0 (word q) → r ≡ q
-unfolding splice word
-same-word r q h k e =
-    let high : r / 256 % 256 ≡ q / 256 % 256 = ap (λ (l : List ℕ). getD l 0 0) e in
-    let low : r % 256 ≡ q % 256 = ap (λ (l : List ℕ). getD l 1 0) e in
-    omega arith
-
-once-storing-put-whole : (κs : _) (a : _) (r q : ℕ) (s t : _) → r < 65536 → q < 65536 → storing-put-whole.Post κs a r s → storing-put-whole.Post κs a q t
-    → (r ≡ q) × (now (s .0) ≡ now (t .0))
-once-storing-put-whole κs a r q s t h k x y =
-    let e = by-outcome (x [] [] anySession) (y [] [] anySession) in
-    (same-word r q h k (e .3), e .1)
-
 -- ---- putting
 
 once-putting-put-data : (κs : _) (a : _) (r q : Reply) (s t : _) → putting-put-data.Post κs a r s → putting-put-data.Post κs a q t → (r ≡ q) × (now (s .1 .0) ≡ now (t .1 .0)) × (now (s .1 .1 .0) ≡ now (t .1 .1 .0)) × (now (s .1 .1 .1 .0) ≡ now (t .1 .1 .1 .0))
 once-putting-put-data κs a r q s t x y = let e = by-outcome x y in (e .0, e .1, e .2, e .3)
-
--- ---- forms
-
-once-forms-admin-form : (κs : _) (a : _) (r q : Admin) (s t : _) → forms-admin-form.Post κs a r s → forms-admin-form.Post κs a q t → r ≡ q
-once-forms-admin-form κs a r q s t = alike r q
-
-once-forms-key-form : (κs : _) (a : _) (r q : Found) (s t : _) → forms-key-form.Post κs a r s → forms-key-form.Post κs a q t → r ≡ q
-once-forms-key-form κs a r q s t = alike r q
-
--- ---- keyuse
-
-once-keyuse-each : (κs : _) (a : _) (r q : ℕ) (s t : _) → keyuse-each.Post κs a r s → keyuse-each.Post κs a q t → r ≡ q
-once-keyuse-each κs a r q s t x y = alike r q (x []) (y [])
-
--- ---- template
-
--- what was done shows in what the host is told of it, in a cleared session and in one with the administrator's status
-knowing : Session
-knowing = withAdmin anySession true
-
-not-said : {key alg n : ℕ} {ss tt : Session} {A : Type 0} → reply (Response 2) ss ≡ reply (JobOpened key alg n) tt → A
-not-said {key} {alg} {n} e =
-    let q : Response 2 ≡ JobOpened key alg n = ap (λ (r : Reply). r .answer) e in
-    let z : _≡_ {A = ℕ} 0 1 = cc in
-    absurd (omega arith)
-
-same-auth : (x y : Auth) → authReply anySession x ≡ authReply anySession y → authReply knowing x ≡ authReply knowing y → x ≡ y
-unfolding anySession knowing
-same-auth Said Said e f = refl
-same-auth Said (Knows true) e f = absurd (false≢true (ap (λ (r : Reply). r .session .admin) e))
-same-auth Said (Knows false) e f = absurd (true≢false (ap (λ (r : Reply). r .session .admin) f))
-same-auth Said (Opens key alg le n) e f = not-said e
-same-auth (Knows true) Said e f = absurd (true≢false (ap (λ (r : Reply). r .session .admin) e))
-same-auth (Knows false) Said e f = absurd (false≢true (ap (λ (r : Reply). r .session .admin) f))
-same-auth (Knows b) (Knows c) e f = ap Knows (ap (λ (r : Reply). r .session .admin) e)
-same-auth (Knows b) (Opens key alg le n) e f = not-said e
-same-auth (Opens key alg le n) Said e f = not-said (sym e)
-same-auth (Opens key alg le n) (Knows b) e f = not-said (sym e)
-same-auth (Opens key alg le n) (Opens key′ alg′ le′ n′) e f =
-    let p : JobOpened key alg n ≡ JobOpened key′ alg′ n′ = ap (λ (r : Reply). r .answer) e in
-    let q : Running key alg le ≡ Running key′ alg′ le′ = ap (λ (r : Reply). r .session .job) e in
-    let x : key ≡ key′ = cc in
-    let y : alg ≡ alg′ = cc in
-    let z : le ≡ le′ = cc in
-    let w : n ≡ n′ = cc in
-    λ i. Opens (x i) (y i) (z i) (w i)
-
-once-template-whole : (κs : _) (a : _) (r q : Auth) (s t : _) → template-whole.Post κs a r s → template-whole.Post κs a q t → (r ≡ q) × (now (s .1 .0) ≡ now (t .1 .0))
-once-template-whole κs a r q s t x y = let e = by-outcome (x anySession [] []) (y anySession [] []) in (same-auth r q (e .0) (by-outcome (x knowing [] []) (y knowing [] []) .0), e .3)
-
-once-template-told : (κs : _) (a : _) (r q : Reply) (s t : _) → template-told.Post κs a r s → template-told.Post κs a q t → r ≡ q
-once-template-told κs a r q s t = alike r q
 
 -- ---- keys
 

@@ -1,4 +1,6 @@
-// PUT DATA (01, "PUT DATA"): the rules for each piece, and the pieces of a chain.
+// PUT DATA (01, "PUT DATA"). Here the rules for each piece, and the pieces of a chain; storing has what the whole comes to at the last piece.
+mod storing;
+
 use rules::Chain;
 use rules::Header;
 use rules::Reply;

@@ -3,7 +3,7 @@
 use borrow.Author.Needs.{needs}
 use denote.Ref.{now}
 use Rattle.rules.specs.Pin.{Refs, refsIn}
-use Rattle.attempt.proofs.Laws.{same-said}
+use Rattle.pin.proofs.attempt.Laws.{same-said}
 use Rattle.pin.proofs.Laws.{rule-verify, rule-change, rule-reset}
 use Rattle.pin.proofs.judge.Statement.{statement}
 use Rattle.pin.proofs.judge.Tie as tie

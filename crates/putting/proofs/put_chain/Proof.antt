@@ -10,7 +10,7 @@ use Rattle.rules.specs.Session.{state}
 use Rattle.rules.specs.Objects.{putWhole}
 use Rattle.rules.specs.Calls.{delivered}
 use Rattle.held.proofs.Laws.{gathered-part, zero-over}
-use Rattle.storing.proofs.Laws.{said}
+use Rattle.putting.proofs.storing.Laws.{said}
 use borrow.Author.Needs.{needs}
 use Rattle.putting.proofs.put_chain.Statement.{statement}
 use Rattle.putting.proofs.put_chain.Tie as tie

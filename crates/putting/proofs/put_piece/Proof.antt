@@ -12,7 +12,7 @@ use Rattle.rules.specs.Command.{says}
 use Rattle.rules.specs.Objects.{putWhole, putEach}
 use Rattle.rules.specs.Calls.{delivered}
 use Rattle.saying.proofs.Laws.{delivers}
-use Rattle.storing.proofs.Laws.{said}
+use Rattle.putting.proofs.storing.Laws.{said}
 use Rattle.putting.proofs.Laws.{each-room, put-bad, put-more, put-one, put-end}
 use borrow.Author.Needs.{needs}
 use Rattle.putting.proofs.put_piece.Statement.{statement}
