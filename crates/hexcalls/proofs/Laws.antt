@@ -2,8 +2,7 @@
 --
 --   read-back count-back few-bytes    the bytes that are read of a row of digits, and their number
 --   sends-long             two commands that are too long
---   sends-few              a command, and its first bytes
---   finishes-few           a result, and its first bytes
+--   asked-few              a call, and its first bytes
 --
 -- Assumes nothing.
 use mathlib.Core.Path.{_≡_, refl, ap, sym, _∙_}
@@ -28,6 +27,9 @@ use Rattle.rules.specs.Held.{calm}
 use Rattle.rules.specs.Calls.{obeyed, command, illSession, shortResponse, interrupts, unasked, wrongResult, permit, granted, denied, lent, keptSession, decided, call, delivered, sends, finishes}
 use Rattle.rules.proofs.Tests.{on, either, or-right, and-off-right, by-order}
 use Rattle.rules.proofs.Permits.{granted-lets}
+use Rattle.lines.specs.declared.What.{What}
+use Rattle.lines.specs.declared.What.the-variants.{Command, Done, Failed as HasFailed}
+use Rattle.lines.specs.Asked.{asked}
 use Rattle.text.specs.Text.{bytesOf}
 use Rattle.text.proofs.Laws.{length-bytes}
 
@@ -74,7 +76,7 @@ sends-same st resp c d e = go (permit st (sends resp c))
 pub sends-long : (st : State) (resp c d : List ℕ) → 261 < length c → 261 < length d → (call st (sends resp c)) .outcome ≡ (call st (sends resp d)) .outcome
 sends-long st resp c d hc hd = sends-same st resp c d (command-long st c d hc hd)
 
-pub sends-few : (st : State) (resp c : List ℕ) (n : ℕ) → n ≡ min (length c) 262
+sends-few : (st : State) (resp c : List ℕ) (n : ℕ) → n ≡ min (length c) 262
     → (call st (sends resp (take n c))) .outcome ≡ (call st (sends resp c)) .outcome
 sends-few st resp c n e =
     by-order 262 (length c)
@@ -109,9 +111,17 @@ module _ (st : State) (resp r q : List ℕ) (hr : resultFits (st .session .job) 
       go Granted e = absurd (never e)
       go (Denied x) e = refl
 
-pub finishes-few : (st : State) (resp r : List ℕ) (n : ℕ) → n ≡ min (length r) 262
+finishes-few : (st : State) (resp r : List ℕ) (n : ℕ) → n ≡ min (length r) 262
     → (call st (finishes resp false (take n r))) .outcome ≡ (call st (finishes resp false r)) .outcome
 finishes-few st resp r n e =
     by-order 262 (length r)
     (λ h. finishes-same st resp (take n r) r (result-long _ (take n r) (omega (arith, length-take n r))) (result-long _ r (omega arith)))
     (λ h. ap (λ (x : List ℕ). (call st (finishes resp false x)) .outcome) (first r n e h))
+
+-- ---- calls
+
+pub asked-few : (w : What) (st : State) (resp c : List ℕ) (n : ℕ) → n ≡ min (length c) 262
+    → (call st (asked w resp (take n c))) .outcome ≡ (call st (asked w resp c)) .outcome
+asked-few Command st resp c n e = sends-few st resp c n e
+asked-few Done st resp c n e = finishes-few st resp c n e
+asked-few HasFailed st resp c n e = refl

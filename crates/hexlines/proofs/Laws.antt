@@ -1,33 +1,17 @@
--- Laws: a command's turn, and the line that is printed.
+-- Laws: the line that is printed.
 --
---   turned                 a command's turn, by its answer
 --   printed-length print-end    the hex of a response, and the end of its line
 --
 -- Assumes nothing.
-use mathlib.Core.Path.{_≡_, ap, ap₂, sym, _∙_}
+use mathlib.Core.Path.{_≡_, ap, ap₂, _∙_}
 use mathlib.Core.List.{List, [], _∷_, _++_}
 use Prim.Native.Nat.{ℕ, _+_, _*_, _≤_}
 use native.Mathlib.Omega.{arith}
 use lib.ListN.{length, take, length-append, length-take}
-use Rattle.rules.specs.declared.Answer.{Answer}
-use Rattle.rules.specs.declared.Reply.{Reply}
 use Rattle.rules.specs.Bytes.{splice}
-use Rattle.rules.specs.Session.{State}
-use Rattle.rules.specs.Calls.{Outcome, outcome, sends, call}
 use Rattle.rules.proofs.Lists.{splice-next}
 use Rattle.text.specs.Text.{hexOf}
 use Rattle.text.proofs.Laws.{length-hex}
-use Rattle.hexlines.specs.HexLines.{closed, turn}
-
--- ---- a command
-
-pub turned : (st : State) (resp c : List ℕ) (r : Reply) (s w p : List ℕ) → outcome r s w p ≡ (call st (sends resp c)) .outcome
-    → (a : Answer) → r .answer ≡ a → closed a (outcome r s w p) ≡ turn st resp c
-unfolding turn
-turned st resp c r s w p e a q =
-    ap (λ (b : Answer). closed b (outcome r s w p)) (sym q) ∙ ap (λ (o : Outcome). closed (o .reply .answer) o) e
-
--- ---- a line that is printed
 
 pub printed-length : (resp v : List ℕ) (k : ℕ) → v ≡ take k resp → length v ≤ length resp
 printed-length resp v k p = omega (arith, ap length p, length-take k resp)

@@ -1,5 +1,6 @@
 // Hex lines: the program of 01's "Checked examples", line by line: what a line comes to on the card.
 use lines::Said;
+use lines::What;
 use rules::Answer;
 use rules::Reply;
 use rules::Session;
@@ -12,7 +13,7 @@ ghost use Rattle.rules.specs.Session.{state};
 ghost use Rattle.rules.specs.Calls.{outcome};
 ghost use Rattle.lines.specs.Seen.{seen};
 ghost use Rattle.text.specs.Text.{bytesOf, hexOf};
-ghost use Rattle.hexlines.specs.HexLines.{isCommand, answered};
+ghost use Rattle.hexlines.specs.HexLines.{isCommand, closed, answered};
 ghost use Rattle.hexlines.specs.HexLines.{shown as HexLines·shown, turn as HexLines·turn};
 
 fn is_command(line: &[u8]) -> bool
@@ -25,22 +26,26 @@ fn is_command(line: &[u8]) -> bool
 }
 
 // A job that is opened is reported as failed at once.
+fn close(r: Reply, store: &mut [u8], work: &mut [u8], resp: &mut [u8]) -> Reply
+    ensures { λ q. ⌜ outcome q (now (store .exit)) (now (work .exit)) (now (resp .exit)) ≡ closed (r .answer) (outcome r (now (store .entry)) (now (work .entry)) (now (resp .entry))) ⌝ }
+{
+    let a = r.answer;
+    if let Answer::JobOpened {
+        key: _,
+        alg: _,
+        len: _,
+    } = a {
+        let s = r.session;
+        return hexcalls::call(s, store, work, resp, What::Failed, &[]);
+    }
+    r
+}
+
 fn turn(session: Session, store: &mut [u8], work: &mut [u8], resp: &mut [u8], line: &[u8]) -> Reply
     ensures { λ r. ⌜ outcome r (now (store .exit)) (now (work .exit)) (now (resp .exit)) ≡ HexLines·turn (state (now (store .entry)) (now (work .entry)) session) (now (resp .entry)) (bytesOf (now (line .entry))) ⌝ }
 {
-    let r = hexcalls::command(session, store, work, resp, line);
-    let a = r.answer;
-    let s = r.session;
-    match a {
-        Answer::JobOpened {
-            key: _,
-            alg: _,
-            len: _,
-        } => card::job_result(s, store, work, resp, true, &line[0..0]),
-        Answer::PoweredOn => r,
-        Answer::Response { len: _ } => r,
-        Answer::Refused(_) => r,
-    }
+    let r = hexcalls::call(session, store, work, resp, What::Command, line);
+    close(r, store, work, resp)
 }
 
 // How many bytes of the response buffer are printed.

@@ -1,4 +1,4 @@
-// Lines: the start of a row and what stands behind it; what a line leaves, and a line that nobody understands.
+// Lines: the start of a row and what stands behind it; what a line asks and what it leaves, and a line that nobody understands.
 use rules::Session;
 ghost use mathlib.Core.Path.{_≡_};
 ghost use mathlib.Core.List.{List};
@@ -6,6 +6,13 @@ ghost use Prim.Native.Nat.{ℕ, _≤_};
 ghost use lib.ListN.{length, take, drop};
 ghost use Rattle.rules.specs.Session.{state};
 ghost use Rattle.lines.specs.Seen.{badLine, seen, tells};
+
+// What a line asks of the card: a command, that a job is done, or that it failed.
+pub enum What {
+    Command,
+    Done,
+    Failed,
+}
 
 // What a line leaves: the session, and the number of bytes that are to be printed.
 pub struct Said {

@@ -2,6 +2,7 @@
 --
 --   shows r s w p out     a call's outcome is printed
 --   called o out          a command or a job result, with its outcome
+--   asks st p w d out     the call w with the digits d
 --   powered o p out       a power-on: the response buffer p is not lent
 --   sessionAt l           the session that a line gives
 --   answered st p l out   what a line comes to, on the card st with the response buffer p
@@ -15,8 +16,10 @@ use lib.ListN.{drop}
 use Rattle.rules.specs.declared.Reply.{Reply}
 use Rattle.rules.specs.Bytes.{iff}
 use Rattle.rules.specs.Session.{State, state}
-use Rattle.rules.specs.Calls.{Outcome, powers, sends, finishes, call}
+use Rattle.rules.specs.Calls.{Outcome, powers, call}
 use Rattle.text.specs.Text.{isHex, bytesOf}
+use Rattle.lines.specs.declared.What.{What}
+use Rattle.lines.specs.Asked.{asked}
 use Rattle.lines.specs.Seen.{Seen, tells, badLine}
 use Rattle.placing.specs.Placing.{place}
 use Rattle.packed.specs.declared.Taken.{Taken}
@@ -26,7 +29,7 @@ use Rattle.outcomes.specs.Outcomes.{outcomeLine}
 use Rattle.verbs.specs.declared.Buffer.{Buffer}
 use Rattle.verbs.specs.declared.Buffer.the-variants.{Store, Work, Resp}
 use Rattle.verbs.specs.declared.Verb.{Verb}
-use Rattle.verbs.specs.declared.Verb.the-variants.{Lend, Put, Session as SessionLine, PowerOn, Command, Done, Fail, Other}
+use Rattle.verbs.specs.declared.Verb.the-variants.{Lend, Put, Session as SessionLine, PowerOn, Ask, Other}
 use Rattle.verbs.specs.Verbs.{verbOf}
 
 -- "ok", and the end of the line
@@ -47,11 +50,9 @@ called o out = shows (o .reply) (o .store) (o .work) (o .resp) out
 unfoldable pub powered : Outcome → List ℕ → List ℕ → Seen
 powered o p out = shows (o .reply) (o .store) (o .work) p out
 
-unfoldable pub commanded : State → List ℕ → List ℕ → List ℕ → Seen
-commanded st p d out = iff (isHex d) (called ((call st (sends p (bytesOf d))) .outcome) out) (tells st p badLine out)
-
-unfoldable pub finished : State → List ℕ → List ℕ → List ℕ → Seen
-finished st p d out = iff (isHex d) (called ((call st (finishes p false (bytesOf d))) .outcome) out) (tells st p badLine out)
+-- a line with a call; of a job that failed there is no hex, and that is hex
+unfoldable pub asks : State → List ℕ → What → List ℕ → List ℕ → Seen
+asks st p w d out = iff (isHex d) (called ((call st (asked w p (bytesOf d))) .outcome) out) (tells st p badLine out)
 
 -- ---- what is lent
 
@@ -77,9 +78,7 @@ byVerb st p l out (Lend b from) = tells st p badLine out
 byVerb st p l out (Put b at from) = put st p l b at from out
 byVerb st p l out SessionLine = taken st p (sessionAt (drop 8 l)) out
 byVerb st p l out (PowerOn air) = powered ((call st (powers air)) .outcome) p out
-byVerb st p l out Command = commanded st p (drop 4 l) out
-byVerb st p l out Done = finished st p (drop 5 l) out
-byVerb st p l out Fail = called ((call st (finishes p true [])) .outcome) out
+byVerb st p l out (Ask w from) = asks st p w (drop from l) out
 byVerb st p l out Other = tells st p badLine out
 
 unfoldable pub answered : State → List ℕ → List ℕ → List ℕ → Seen

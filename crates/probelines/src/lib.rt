@@ -1,21 +1,21 @@
 // Probe lines: what a line of the program probe comes to on the card. One function for each kind of line.
 use lines::Said;
+use lines::What;
 use packed::Taken;
 use rules::Reply;
 use rules::Session;
 use verbs::Buffer;
 use verbs::Verb;
 ghost use mathlib.Core.Path.{_≡_};
-ghost use mathlib.Core.Bool.{true};
-ghost use mathlib.Core.List.{List, []};
+ghost use mathlib.Core.List.{List};
 ghost use Prim.Native.Nat.{ℕ, _+_, _*_, _≤_};
 ghost use lib.ListN.{length};
 ghost use Rattle.rules.specs.declared.Session.{Session};
 ghost use Rattle.rules.specs.Session.{state};
-ghost use Rattle.rules.specs.Calls.{powers, finishes, call};
+ghost use Rattle.rules.specs.Calls.{powers, call};
 ghost use Rattle.lines.specs.Seen.{seen};
-ghost use Rattle.probelines.specs.ProbeLines.{says, called, powered, commanded, sessionAt, answered};
-ghost use Rattle.probelines.specs.ProbeLines.{shows as ProbeLines·shows, finished as ProbeLines·finished, taken as ProbeLines·taken, put as ProbeLines·put};
+ghost use Rattle.probelines.specs.ProbeLines.{says, powered, asks, sessionAt, answered};
+ghost use Rattle.probelines.specs.ProbeLines.{shows as ProbeLines·shows, taken as ProbeLines·taken, put as ProbeLines·put};
 
 // ---- what is printed
 
@@ -50,54 +50,22 @@ fn power_on(contactless: bool, store: &[u8], work: &mut [u8], resp: &[u8], out: 
     shows(r, store, work, resp, out)
 }
 
-fn command(
+fn ask(
     session: Session,
     store: &mut [u8],
     work: &mut [u8],
     resp: &mut [u8],
+    what: What,
     digits: &[u8],
     out: &mut [u8],
 ) -> Said
     requires { ⌜ 2 * length (now resp) + 200 ≤ length (now out) ⌝ }
-    ensures { λ r. ⌜ seen (r .session) (now (store .exit)) (now (work .exit)) (now (resp .exit)) (r .len) (now (out .exit)) ≡ commanded (state (now (store .entry)) (now (work .entry)) session) (now (resp .entry)) (now (digits .entry)) (now (out .entry)) ⌝ }
+    ensures { λ r. ⌜ seen (r .session) (now (store .exit)) (now (work .exit)) (now (resp .exit)) (r .len) (now (out .exit)) ≡ asks (state (now (store .entry)) (now (work .entry)) session) (now (resp .entry)) what (now (digits .entry)) (now (out .entry)) ⌝ }
 {
     if !text::is_hex(digits) {
         return lines::bad(session, out);
     }
-    let r = hexcalls::command(session, store, work, resp, digits);
-    shows(r, store, work, resp, out)
-}
-
-fn done(
-    session: Session,
-    store: &[u8],
-    work: &mut [u8],
-    resp: &mut [u8],
-    digits: &[u8],
-    out: &mut [u8],
-) -> Said
-    requires { ⌜ 2 * length (now resp) + 200 ≤ length (now out) ⌝ }
-    ensures { λ r. ⌜ seen (r .session) (now (store .entry)) (now (work .exit)) (now (resp .exit)) (r .len) (now (out .exit)) ≡ ProbeLines·finished (state (now (store .entry)) (now (work .entry)) session) (now (resp .entry)) (now (digits .entry)) (now (out .entry)) ⌝ }
-{
-    if !text::is_hex(digits) {
-        return lines::bad(session, out);
-    }
-    let r = hexcalls::job_result(session, store, work, resp, digits);
-    shows(r, store, work, resp, out)
-}
-
-fn fail(
-    session: Session,
-    store: &[u8],
-    work: &mut [u8],
-    resp: &mut [u8],
-    line: &[u8],
-    out: &mut [u8],
-) -> Said
-    requires { ⌜ 2 * length (now resp) + 200 ≤ length (now out) ⌝ }
-    ensures { λ r. ⌜ seen (r .session) (now (store .entry)) (now (work .exit)) (now (resp .exit)) (r .len) (now (out .exit)) ≡ called ((call (state (now (store .entry)) (now (work .entry)) session) (finishes (now (resp .entry)) true [])) .outcome) (now (out .entry)) ⌝ }
-{
-    let r = card::job_result(session, store, work, resp, true, &line[0..0]);
+    let r = hexcalls::call(session, store, work, resp, what, digits);
     shows(r, store, work, resp, out)
 }
 
@@ -171,13 +139,18 @@ pub fn answer(
     ensures { λ r. ⌜ seen (r .session) (now (store .exit)) (now (work .exit)) (now (resp .exit)) (r .len) (now (out .exit)) ≡ answered (state (now (store .entry)) (now (work .entry)) session) (now (resp .entry)) (now (line .entry)) (now (out .entry)) ⌝ }
 {
     match verbs::verb_of(line) {
-        Verb::Lend(_, _) => lines::bad(session, out),
         Verb::Put(b, at, from) => put(session, store, work, resp, line, b, at, from, out),
         Verb::Session => take(session, session_at(lines::after(line, 8)), out),
         Verb::PowerOn(contactless) => power_on(contactless, store, work, resp, out),
-        Verb::Command => command(session, store, work, resp, lines::after(line, 4), out),
-        Verb::Done => done(session, store, work, resp, lines::after(line, 5), out),
-        Verb::Fail => fail(session, store, work, resp, line, out),
-        Verb::Other => lines::bad(session, out),
+        Verb::Ask(what, from) => ask(
+            session,
+            store,
+            work,
+            resp,
+            what,
+            lines::after(line, from),
+            out,
+        ),
+        Verb::Lend(_, _) | Verb::Other => lines::bad(session, out),
     }
 }

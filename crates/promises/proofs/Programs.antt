@@ -24,8 +24,7 @@ use Rattle.text.proofs.keep.Reads as text-keep
 use Rattle.lines.proofs.first.Reads as lines-first
 use Rattle.lines.proofs.after.Reads as lines-after
 use Rattle.lines.proofs.bad.Reads as lines-bad
-use Rattle.hexcalls.proofs.command.Reads as hexcalls-command
-use Rattle.hexcalls.proofs.job_result.Reads as hexcalls-job-result
+use Rattle.hexcalls.proofs.call.Reads as hexcalls-call
 use Rattle.packed.proofs.pack.Reads as packed-pack
 use Rattle.packed.proofs.session_in.Reads as packed-session-in
 use Rattle.sums.proofs.sum.Reads as sums-sum
@@ -85,11 +84,8 @@ once-lines-bad κs a r q s t x y = let e = by-seen (x [] [] []) (y [] [] []) in 
 
 -- ---- hexcalls
 
-once-hexcalls-command : (κs : _) (a : _) (r q : Reply) (s t : _) → hexcalls-command.Post κs a r s → hexcalls-command.Post κs a q t → (r ≡ q) × (now (s .1 .0) ≡ now (t .1 .0)) × (now (s .1 .1 .0) ≡ now (t .1 .1 .0)) × (now (s .1 .1 .1 .0) ≡ now (t .1 .1 .1 .0))
-once-hexcalls-command κs a r q s t x y = let e = by-outcome x y in (e .0, e .1, e .2, e .3)
-
-once-hexcalls-job-result : (κs : _) (a : _) (r q : Reply) (s t : _) → hexcalls-job-result.Post κs a r s → hexcalls-job-result.Post κs a q t → (r ≡ q) × (now (s .1 .1 .0) ≡ now (t .1 .1 .0)) × (now (s .1 .1 .1 .0) ≡ now (t .1 .1 .1 .0))
-once-hexcalls-job-result κs a r q s t x y = let e = by-outcome x y in (e .0, e .2, e .3)
+once-hexcalls-call : (κs : _) (a : _) (r q : Reply) (s t : _) → hexcalls-call.Post κs a r s → hexcalls-call.Post κs a q t → (r ≡ q) × (now (s .1 .0) ≡ now (t .1 .0)) × (now (s .1 .1 .0) ≡ now (t .1 .1 .0)) × (now (s .1 .1 .1 .0) ≡ now (t .1 .1 .1 .0))
+once-hexcalls-call κs a r q s t x y = let e = by-outcome x y in (e .0, e .1, e .2, e .3)
 
 -- ---- packed
 

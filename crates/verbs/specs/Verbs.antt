@@ -12,6 +12,7 @@ use Prim.Native.Nat.{ℕ, _+_, _-_, _*_, min}
 use lib.Dec.{leb, eqb}
 use lib.ListN.{length, drop, getD}
 use Rattle.rules.specs.Bytes.{iff, sameBytes, part}
+use Rattle.lines.specs.declared.What.the-variants.{Command, Done, Failed}
 use Rattle.verbs.specs.declared.Buffer.{Buffer}
 use Rattle.verbs.specs.declared.Buffer.the-variants.{Store, Work, Resp}
 use Rattle.verbs.specs.declared.Named.{Named}
@@ -19,7 +20,7 @@ use Rattle.verbs.specs.declared.Named.the-variants.{Name, Nameless}
 use Rattle.verbs.specs.declared.Number.{Number}
 use Rattle.verbs.specs.declared.Number.the-variants.{Count, Countless}
 use Rattle.verbs.specs.declared.Verb.{Verb}
-use Rattle.verbs.specs.declared.Verb.the-variants.{Lend, Put, Session, PowerOn, Command, Done, Fail, Other}
+use Rattle.verbs.specs.declared.Verb.the-variants.{Lend, Put, Session, PowerOn, Ask, Other}
 
 -- ---- words
 
@@ -93,11 +94,12 @@ abbrev pub lendOf : Named → Verb
 lendOf (Name b from) = Lend b from
 lendOf Nameless = Other
 
+-- behind "fail" stands nothing
 unfoldable pub verbOf : List ℕ → Verb
 verbOf l =
-    iff (starts l 0 commandWord) Command
-    (iff (starts l 0 doneWord) Done
-    (iff (sameBytes l failLine) Fail
+    iff (starts l 0 commandWord) (Ask Command 4)
+    (iff (starts l 0 doneWord) (Ask Done 5)
+    (iff (sameBytes l failLine) (Ask Failed 4)
     (iff (sameBytes l onContact) (PowerOn false)
     (iff (sameBytes l onContactless) (PowerOn true)
     (iff (starts l 0 sessionWord) Session

@@ -1,4 +1,5 @@
 // Verbs: the first words of a line of the program probe, and where the hex behind them begins.
+use lines::What;
 ghost use mathlib.Core.Path.{_≡_};
 ghost use Prim.Native.Nat.{_≤_};
 ghost use Rattle.verbs.specs.Verbs.{bufferAt, isFigure, numberAt, verbOf};
@@ -22,14 +23,13 @@ pub enum Number {
     Countless,
 }
 
+// What a line is for; with a call, the place where its hex begins.
 pub enum Verb {
     Lend(Buffer, usize),
     Put(Buffer, usize, usize),
     Session,
     PowerOn(bool),
-    Command,
-    Done,
-    Fail,
+    Ask(What, usize),
     Other,
 }
 
@@ -155,15 +155,15 @@ pub fn verb_of(l: &[u8]) -> Verb
 {
     let command = COMMAND;
     if starts(l, 0, &command) {
-        return Verb::Command;
+        return Verb::Ask(What::Command, 4);
     }
     let done = DONE;
     if starts(l, 0, &done) {
-        return Verb::Done;
+        return Verb::Ask(What::Done, 5);
     }
     let fail = FAIL;
     if octets::same(l, &fail) {
-        return Verb::Fail;
+        return Verb::Ask(What::Failed, 4);
     }
     let contact = ON_CONTACT;
     if octets::same(l, &contact) {

@@ -4,10 +4,10 @@ use mathlib.Core.Path.{ap, sym, _∙_}
 use denote.Ref.{now}
 use Rattle.rules.specs.Calls.{Outcome}
 use Rattle.rules.proofs.Tests.{on, off, passes, fails}
-use Rattle.probelines.specs.ProbeLines.{called, commanded}
+use Rattle.probelines.specs.ProbeLines.{called, asks}
 use borrow.Author.Needs.{needs}
-use Rattle.probelines.proofs.command.Statement.{statement}
-use Rattle.probelines.proofs.command.Tie as tie
+use Rattle.probelines.proofs.ask.Statement.{statement}
+use Rattle.probelines.proofs.ask.Tie as tie
 
 is-hex-requires : tie.Need-is-hex-requires
 is-hex-requires c κs = search needs
@@ -19,13 +19,13 @@ same-length : tie.Need-same-length
 same-length c = search needs
 
 returns : tie.Need-returns
-unfolding commanded
+unfolding asks
 returns c =
     let a = c .before .before .before .before .before .before .before .before .before .before .before .args in
     c .before .before .bad .ensures (now (a .store)) (now (a .work)) (now (a .resp)) ∙ sym (off _ _ _ (fails (c .before .before .before .before .before .is-hex .ensures) (c .before .before .before .before .if1 .taken)))
 
-command-requires : tie.Need-command-requires
-command-requires c κs = search needs
+call-requires : tie.Need-call-requires
+call-requires c κs = search needs
 
 shows-requires : tie.Need-shows-requires
 shows-requires c κs = search needs
@@ -43,21 +43,21 @@ same-length-5 : tie.Need-same-length-5
 same-length-5 c = search needs
 
 returns-2 : tie.Need-returns-2
-unfolding commanded called
+unfolding asks called
 returns-2 c =
     let a = c .before .before .before .before .before .before .before .before .before .before .before .before .before .before .before .before .before .before .before .before .before .before .before .before .args in
-    c .before .before .shows .ensures ∙ ap (λ (o : Outcome). called o (now (a .out))) (c .before .before .before .before .before .before .before .before .before .before .before .before .before .command .ensures)
+    c .before .before .shows .ensures ∙ ap (λ (o : Outcome). called o (now (a .out))) (c .before .before .before .before .before .before .before .before .before .before .before .before .before .call .ensures)
     ∙ sym (on _ _ _ (passes (c .before .before .before .before .before .before .before .before .before .before .before .before .before .before .before .before .before .before .is-hex .ensures) (c .before .before .before .before .before .before .before .before .before .before .before .before .before .before .before .before .before .if1 .left)))
 
-pub command-spec : {M : Type 1} → statement M
-command-spec =
+pub ask-spec : {M : Type 1} → statement M
+ask-spec =
     tie.close
     (tie.spec
     is-hex-requires
     bad-requires
     same-length
     returns
-    command-requires
+    call-requires
     shows-requires
     same-length-2
     same-length-3

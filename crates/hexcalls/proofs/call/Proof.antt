@@ -4,13 +4,14 @@ use mathlib.Core.Path.{ap, _∙_}
 use mathlib.Core.List.{List}
 use Prim.Native.Nat.{ℕ}
 use denote.Ref.{now}
-use Rattle.rules.specs.Calls.{sends, call}
+use Rattle.rules.specs.Calls.{call}
 use Rattle.rules.specs.Session.{state}
-use Rattle.hexcalls.proofs.Laws.{read-back, count-back, few-bytes, sends-few}
+use Rattle.hexcalls.proofs.Laws.{read-back, count-back, few-bytes, asked-few}
+use Rattle.lines.specs.Asked.{asked}
 use Rattle.text.specs.Text.{bytesOf}
 use borrow.Author.Needs.{needs}
-use Rattle.hexcalls.proofs.command.Statement.{statement}
-use Rattle.hexcalls.proofs.command.Tie as tie
+use Rattle.hexcalls.proofs.call.Statement.{statement}
+use Rattle.hexcalls.proofs.call.Tie as tie
 
 read-of-requires : tie.Need-read-of-requires
 read-of-requires c κs = search needs
@@ -24,11 +25,11 @@ read-hex-requires c κs = search needs
 array-share-prefix-bytes : tie.Need-array-share-prefix-bytes
 array-share-prefix-bytes c = search needs
 
-slice-aggregate-command : tie.Need-slice-aggregate-command
-slice-aggregate-command c = count-back (now (c .before .before .before .before .before .before .before .before .before .before .before .before .args .digits)) _ _ _ (c .before .before .before .before .before .before .before .read-of .ensures) (c .before .before .before .before .before .read-hex .ensures)
+slice-aggregate-make : tie.Need-slice-aggregate-make
+slice-aggregate-make c = count-back (now (c .before .before .before .before .before .before .before .before .before .before .before .before .args .digits)) _ _ _ (c .before .before .before .before .before .before .before .read-of .ensures) (c .before .before .before .before .before .read-hex .ensures)
 
-command-requires : tie.Need-command-requires
-command-requires c κs = search needs
+make-requires : tie.Need-make-requires
+make-requires c κs = search needs
 
 same-length : tie.Need-same-length
 same-length c = search needs
@@ -46,20 +47,20 @@ returns c =
     let st = state (now (a .store)) (now (a .work)) (a .session) in
     let n = c .before .before .before .before .before .before .before .before .before .before .before .before .before .before .read-of in
     let h = c .before .before .before .before .before .before .before .before .before .before .before .before .read-hex in
-    c .before .before .before .before .before .before .command .ensures
-    ∙ ap (λ (x : List ℕ). (call st (sends (now (a .resp)) x)) .outcome) (read-back l (h .last .0) _ (n .result) (n .ensures) (h .ensures))
-    ∙ sends-few st (now (a .resp)) (bytesOf l) (n .result) (few-bytes l (h .last .0) _ (n .result) (n .ensures) (h .ensures))
+    c .before .before .before .before .before .before .make .ensures
+    ∙ ap (λ (x : List ℕ). (call st (asked (a .what) (now (a .resp)) x)) .outcome) (read-back l (h .last .0) _ (n .result) (n .ensures) (h .ensures))
+    ∙ asked-few (a .what) st (now (a .resp)) (bytesOf l) (n .result) (few-bytes l (h .last .0) _ (n .result) (n .ensures) (h .ensures))
 
-pub command-spec : {M : Type 1} → statement M
-command-spec =
+pub call-spec : {M : Type 1} → statement M
+call-spec =
     tie.close
     (tie.spec
     read-of-requires
     slice-aggregate-read-hex
     read-hex-requires
     array-share-prefix-bytes
-    slice-aggregate-command
-    command-requires
+    slice-aggregate-make
+    make-requires
     same-length
     same-length-2
     same-length-3
