@@ -24,8 +24,8 @@ use Rattle.octets.proofs.Laws.{splice-cons}
 use Rattle.text.proofs.Laws.{length-hex}
 use Rattle.packed.specs.Packed.{packed}
 use Rattle.packed.proofs.Laws.{packed-length}
-use Rattle.sums.specs.Sums.{sumOf}
-use Rattle.sums.proofs.Laws.{wrote-then, length-decimal}
+use Rattle.outcomes.specs.Sums.{sumOf}
+use Rattle.outcomes.proofs.Digits.{wrote-then, length-decimal}
 use Rattle.outcomes.specs.Outcomes.{kind, sessionText, sumText, sumsText, outcomeLine}
 
 pub marked : (d x y v : List ℕ) (at b n : ℕ) → at < length d → x ≡ splice d at (b ∷ []) → (n ≡ at + 1 + length v) × (y ≡ splice x (at + 1) v)

@@ -17,7 +17,7 @@ use Rattle.rules.specs.declared.Session.{Session}
 use Rattle.rules.specs.Calls.{refusalNumber}
 use Rattle.text.specs.Text.{hexOf}
 use Rattle.packed.specs.Packed.{packed}
-use Rattle.sums.specs.Sums.{sumOf, decimalOf}
+use Rattle.outcomes.specs.Sums.{sumOf, decimalOf}
 
 -- "R" and the response bytes; "J" and the job's key, algorithm and data; "N" and the refusal's number; "P -"
 unfoldable pub kind : Answer → List ℕ → List ℕ

@@ -1,5 +1,7 @@
 // Outcomes: all that is seen of a call, as one line of text.
 // Each writer is given the buffer and a place in it, and answers the place behind what it wrote.
+mod sums;
+
 use rules::Answer;
 use rules::Refusal;
 use rules::Reply;

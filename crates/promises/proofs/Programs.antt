@@ -27,8 +27,6 @@ use Rattle.lines.proofs.bad.Reads as lines-bad
 use Rattle.hexcalls.proofs.call.Reads as hexcalls-call
 use Rattle.packed.proofs.pack.Reads as packed-pack
 use Rattle.packed.proofs.session_in.Reads as packed-session-in
-use Rattle.sums.proofs.sum.Reads as sums-sum
-use Rattle.sums.proofs.write_decimal.Reads as sums-write-decimal
 use Rattle.outcomes.proofs.write.Reads as outcomes-write
 use Rattle.verbs.proofs.verb_of.Reads as verbs-verb-of
 use Rattle.placing.proofs.place.Reads as placing-place
@@ -94,14 +92,6 @@ once-packed-pack κs a s t = alike _ _
 
 once-packed-session-in : (κs : _) (a : _) (r q : Taken) (s t : _) → packed-session-in.Post κs a r s → packed-session-in.Post κs a q t → r ≡ q
 once-packed-session-in κs a r q s t = alike r q
-
--- ---- sums
-
-once-sums-sum : (κs : _) (a : _) (r q : ℕ) (s t : _) → sums-sum.Post κs a r s → sums-sum.Post κs a q t → r ≡ q
-once-sums-sum κs a r q s t = alike r q
-
-once-sums-write-decimal : (κs : _) (a : _) (r q : ℕ) (s t : _) → sums-write-decimal.Post κs a r s → sums-write-decimal.Post κs a q t → (r ≡ q) × (now (s .0) ≡ now (t .0))
-once-sums-write-decimal κs a r q s t x y = (alike r q (x .0) (y .0), alike _ _ (x .1) (y .1))
 
 -- ---- outcomes
 

@@ -7,7 +7,7 @@ use denote.Ref.{now}
 use lib.ListN.{length, take}
 use Rattle.rules.specs.Bytes.{splice}
 use Rattle.text.specs.Text.{hexOf}
-use Rattle.sums.proofs.Laws.{wrote-then}
+use Rattle.outcomes.proofs.Digits.{wrote-then}
 use Rattle.outcomes.specs.Outcomes.{kind}
 use Rattle.outcomes.proofs.Laws.{marked, take-few}
 use native.Mathlib.Omega.{arith}

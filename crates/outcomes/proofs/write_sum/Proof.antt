@@ -5,7 +5,7 @@ use Prim.Native.Nat.{ℕ, _+_}
 use denote.Ref.{now}
 use lib.ListN.{length}
 use Rattle.rules.specs.Bytes.{splice}
-use Rattle.sums.specs.Sums.{decimalOf, sumOf}
+use Rattle.outcomes.specs.Sums.{decimalOf, sumOf}
 use Rattle.outcomes.specs.Outcomes.{sumText}
 use Rattle.outcomes.proofs.Laws.{marked}
 use native.Mathlib.Omega.{arith}

@@ -6,19 +6,19 @@ use Prim.Native.Nat.{_+_, _-_, _/_, _%_, _≤_}
 use denote.Ref.{now}
 use lib.ListN.{length}
 use Rattle.rules.specs.Bytes.{splice}
-use Rattle.sums.specs.Sums.{decimalOf}
-use Rattle.sums.proofs.Laws.{splice-none, wrote-then, decimal-none, decimal-one, decimal-more, length-decimal}
+use Rattle.outcomes.specs.Sums.{decimalOf}
+use Rattle.outcomes.proofs.Digits.{splice-none, wrote-then, decimal-none, decimal-one, decimal-more, length-decimal}
 use native.Mathlib.Omega.{arith}
 use borrow.Author.Needs.{needs}
 use Prim.Native.Nat.{ℕ, _<_}
 use borrow.Fn.Kinds.{In}
 use borrow.Fn.PlainCycle.{Measures, is, falls, and}
-use Rattle.sums.proofs.write_decimal.Reads as write-decimal
-use Rattle.sums.proofs.write_decimal.Kinds as write-decimal-kinds
-use Rattle.sums.proofs.+write_decimal.Lts-write_decimal as write-decimal-lts
+use Rattle.outcomes.proofs.sums.write_decimal.Reads as write-decimal
+use Rattle.outcomes.proofs.sums.write_decimal.Kinds as write-decimal-kinds
+use Rattle.outcomes.proofs.sums.+write_decimal.Lts-write_decimal as write-decimal-lts
 use Rattle.octets.proofs.put_byte.Reads as put-byte-reads
-use Rattle.sums.proofs.+write_decimal.{statement}
-use Rattle.sums.proofs.+write_decimal.Tie.{close}
+use Rattle.outcomes.proofs.sums.+write_decimal.{statement}
+use Rattle.outcomes.proofs.sums.+write_decimal.Tie.{close}
 
 abbrev μ-write-decimal : Measures 1 write-decimal-kinds.ps ℕ
 μ-write-decimal κs a = a .1 .1 .0

@@ -3,7 +3,7 @@ ghost use mathlib.Core.Path.{_≡_};
 ghost use Prim.Native.Nat.{_+_, _≤_};
 ghost use lib.ListN.{length};
 ghost use Rattle.rules.specs.Bytes.{splice};
-ghost use Rattle.sums.specs.Sums.{sumOf, decimalOf};
+ghost use Rattle.outcomes.specs.Sums.{sumOf, decimalOf};
 
 pub fn sum(s: &[u8]) -> u64
     ensures { λ r. ⌜ r ≡ sumOf (now (s .entry)) ⌝ }

@@ -4,11 +4,11 @@ use mathlib.Core.Path.{_≡_, refl, _∙_}
 use Prim.Native.Nat.{_-_, _≤_, _<_}
 use denote.Ref.{now}
 use lib.ListN.{length, drop}
-use Rattle.sums.specs.Sums.{sumFrom, sumOf}
-use Rattle.sums.proofs.Laws.{sum-at, sum-end}
+use Rattle.outcomes.specs.Sums.{sumFrom, sumOf}
+use Rattle.outcomes.proofs.Digits.{sum-at, sum-end}
 use native.Mathlib.Omega.{arith}
-use Rattle.sums.proofs.sum.Statement.{statement}
-use Rattle.sums.proofs.sum.Tie as tie
+use Rattle.outcomes.proofs.sums.sum.Statement.{statement}
+use Rattle.outcomes.proofs.sums.sum.Tie as tie
 
 abbrev Inv-loop : tie.InvT-loop
 Inv-loop s h₀ i₀ h i = (i ≤ length s) × (h < 4294967291) × (sumOf s ≡ sumFrom h (drop i s))

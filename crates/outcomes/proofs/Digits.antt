@@ -1,4 +1,4 @@
--- Laws: the sum of a row from a place on; the digits of a number in a buffer.
+-- Digits: the sum of a row from a place on; the digits of a number in a buffer.
 --
 --   sum-at sum-end         the sum carried on over one byte, and at the end
 --   splice-none            nothing put in a row
@@ -19,7 +19,7 @@ use borrow.Author.Tests.{lt-ltb, le-ltb}
 use Rattle.rules.specs.Bytes.{splice}
 use Rattle.rules.proofs.Tests.{on, off, either}
 use Rattle.rules.proofs.Lists.{splice-next, part-none, splice-part}
-use Rattle.sums.specs.Sums.{sumFrom, sumOf, decimalOf}
+use Rattle.outcomes.specs.Sums.{sumFrom, sumOf, decimalOf}
 
 pub sum-at : (h : ℕ) (s : List ℕ) (i : ℕ) → i < length s → sumFrom h (drop i s) ≡ sumFrom ((h * 257 + getD s i 0 + 1) % 4294967291) (drop (i + 1) s)
 sum-at h s i l = rw (add-one i, drop-cons s i 0 l)
