@@ -121,6 +121,14 @@ pub fn whole(ch: Challenge, resp: &mut [u8], h: Header, d: &[u8]) -> Auth
     auth_in(ch, resp, h, octets::part(d, from, len))
 }
 
+fn with_admin(s: Session, known: bool) -> Session
+    ensures { λ r. ⌜ r ≡ withAdmin s known ⌝ }
+{
+    let mut n = s;
+    n.admin = known;
+    n
+}
+
 pub fn told(s: Session, x: Auth) -> Reply
     ensures { λ r. ⌜ r ≡ authReply s x ⌝ }
 {
@@ -131,7 +139,7 @@ pub fn told(s: Session, x: Auth) -> Reply
         },
         Auth::Knows { admin } => Reply {
             answer: Answer::Response { len: 2 },
-            session: session::with_admin(s, admin),
+            session: with_admin(s, admin),
         },
         Auth::Opens { key, alg, le, len } => Reply {
             answer: Answer::JobOpened { key, alg, len },

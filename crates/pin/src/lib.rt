@@ -40,6 +40,14 @@ fn judge(store: &mut [u8], given: bool, h: Header, field: &[u8]) -> Judged
     resetting::reset(store, given, h, field)
 }
 
+fn with_pin(s: Session, given: bool) -> Session
+    ensures { λ r. ⌜ r ≡ withPin s given ⌝ }
+{
+    let mut n = s;
+    n.pin = given;
+    n
+}
+
 // What is held is dropped, and the word goes out.
 fn judged(s: Session, work: &mut [u8], resp: &mut [u8], j: Judged) -> Reply
     requires { ⌜ (258 ≤ length (now resp)) × (heldLength s ≤ 13321) × (length (now work) ≡ 13321) ⌝ }
@@ -47,7 +55,7 @@ fn judged(s: Session, work: &mut [u8], resp: &mut [u8], j: Judged) -> Reply
 {
     let t = held::drop_held(s, work);
     let given = j.given;
-    saying::say(session::with_pin(t, given), resp, j.sw)
+    saying::say(with_pin(t, given), resp, j.sw)
 }
 
 // The steps on the store come before any byte of the work area is zeroed.

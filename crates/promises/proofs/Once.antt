@@ -51,8 +51,6 @@ use Rattle.reader.proofs.first.Reads as reader-first
 use Rattle.reader.proofs.only.Reads as reader-only
 use Rattle.reader.proofs.last.Reads as reader-last
 use Rattle.session.proofs.cleared.Reads as session-cleared
-use Rattle.session.proofs.with_pin.Reads as session-with-pin
-use Rattle.session.proofs.with_admin.Reads as session-with-admin
 use Rattle.session.proofs.holding.Reads as session-holding
 use Rattle.session.proofs.with_challenge.Reads as session-with-challenge
 use Rattle.session.proofs.with_job.Reads as session-with-job
@@ -173,12 +171,6 @@ once-reader-last κs a r q s t = alike r q
 
 once-session-cleared : (κs : _) (a : _) (r q : Session) (s t : _) → session-cleared.Post κs a r s → session-cleared.Post κs a q t → r ≡ q
 once-session-cleared κs a r q s t = alike r q
-
-once-session-with-pin : (κs : _) (a : _) (r q : Session) (s t : _) → session-with-pin.Post κs a r s → session-with-pin.Post κs a q t → r ≡ q
-once-session-with-pin κs a r q s t = alike r q
-
-once-session-with-admin : (κs : _) (a : _) (r q : Session) (s t : _) → session-with-admin.Post κs a r s → session-with-admin.Post κs a q t → r ≡ q
-once-session-with-admin κs a r q s t = alike r q
 
 once-session-holding : (κs : _) (a : _) (r q : Session) (s t : _) → session-holding.Post κs a r s → session-holding.Post κs a q t → r ≡ q
 once-session-holding κs a r q s t = alike r q

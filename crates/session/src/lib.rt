@@ -1,11 +1,11 @@
-// The session: one setter for each group of fields, and the number of bytes that it says are held.
+// The session: setters that several commands use, and the number of bytes that it says are held.
 use rules::Chain;
 use rules::Challenge;
 use rules::Job;
 use rules::Rest;
 use rules::Session;
 ghost use mathlib.Core.Path.{_≡_};
-ghost use Rattle.rules.specs.Session.{cleared, withPin, withAdmin, holding, withChallenge, withJob, chainLength, running};
+ghost use Rattle.rules.specs.Session.{cleared, holding, withChallenge, withJob, chainLength, running};
 
 // ---- setters
 
@@ -22,22 +22,6 @@ pub fn cleared(contactless: bool) -> Session
         challenge: Challenge::Unasked,
         job: Job::Idle,
     }
-}
-
-pub fn with_pin(s: Session, given: bool) -> Session
-    ensures { λ r. ⌜ r ≡ withPin s given ⌝ }
-{
-    let mut n = s;
-    n.pin = given;
-    n
-}
-
-pub fn with_admin(s: Session, known: bool) -> Session
-    ensures { λ r. ⌜ r ≡ withAdmin s known ⌝ }
-{
-    let mut n = s;
-    n.admin = known;
-    n
 }
 
 pub fn holding(s: Session, chain: Chain, rest: Rest) -> Session
