@@ -50,7 +50,7 @@ fn byte(at: At, store: &mut [u8], work: &mut [u8], resp: &mut [u8], line: &mut [
             more: true,
         };
     }
-    let m = text::keep(line, n, b);
+    let m = keeping::keep(line, n, b);
     At {
         session: s,
         n: m,

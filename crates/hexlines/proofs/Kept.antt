@@ -14,9 +14,10 @@ use Rattle.rules.specs.Bytes.{iff}
 use Rattle.rules.specs.Session.{State}
 use Rattle.rules.specs.Calls.{Outcome}
 use Rattle.lines.specs.Seen.{Seen, tells, badLine}
-use Rattle.text.specs.Text.{bytesOf, keptLine}
+use Rattle.text.specs.Text.{bytesOf}
 use Rattle.text.proofs.Laws.{length-bytes}
-use Rattle.text.proofs.Kept.{Kin, itself, long, kept-kin, kin-hex}
+use Rattle.keeping.specs.Keeping.{keptLine}
+use Rattle.keeping.proofs.Kept.{Kin, itself, long, kept-kin, kin-hex}
 use Rattle.hexcalls.proofs.Laws.{sends-long}
 use Rattle.hexlines.specs.HexLines.{isCommand, closed, turn, told, answered}
 use Rattle.hexlines.specs.Claims.{Holds}

@@ -10,8 +10,8 @@ use native.Mathlib.Omega.{arith}
 use lib.ListN.{length, take, length-append, length-take}
 use Rattle.rules.specs.Bytes.{splice}
 use Rattle.rules.proofs.Lists.{splice-next}
-use Rattle.text.specs.Text.{hexOf}
-use Rattle.text.proofs.Laws.{length-hex}
+use Rattle.printing.specs.Printing.{hexOf}
+use Rattle.printing.proofs.Laws.{length-hex}
 
 pub printed-length : (resp v : List ℕ) (k : ℕ) → v ≡ take k resp → length v ≤ length resp
 printed-length resp v k p = omega (arith, ap length p, length-take k resp)

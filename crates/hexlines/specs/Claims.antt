@@ -2,13 +2,13 @@
 --
 --   Holds                 the claim, for every buffer of at least 526 bytes
 --
--- The program feeds a line to `text::keep`, byte by byte, and answers what is kept at its end. Assumes nothing.
+-- The program feeds a line to `keeping::keep`, byte by byte, and answers what is kept at its end. Assumes nothing.
 use mathlib.Core.Path.{_≡_}
 use mathlib.Core.List.{List}
 use Prim.Native.Nat.{ℕ, _≤_}
 use lib.ListN.{length}
 use Rattle.rules.specs.Session.{State}
-use Rattle.text.specs.Text.{keptLine}
+use Rattle.keeping.specs.Keeping.{keptLine}
 use Rattle.hexlines.specs.HexLines.{answered}
 
 abbrev pub Holds : Type 0

@@ -17,7 +17,8 @@ use Rattle.rules.specs.Bytes.{iff}
 use Rattle.rules.specs.Session.{State, state}
 use Rattle.rules.specs.Calls.{Outcome, sends, finishes, call}
 use Rattle.lines.specs.Seen.{Seen, tells, badLine}
-use Rattle.text.specs.Text.{isHex, bytesOf, hexOf}
+use Rattle.text.specs.Text.{isHex, bytesOf}
+use Rattle.printing.specs.Printing.{hexOf}
 
 -- a line that is empty, of odd length or not hex reaches no card
 unfoldable pub isCommand : List ℕ → Bool

@@ -12,7 +12,8 @@ ghost use Rattle.rules.specs.Bytes.{splice};
 ghost use Rattle.rules.specs.Session.{state};
 ghost use Rattle.rules.specs.Calls.{outcome};
 ghost use Rattle.lines.specs.Seen.{seen};
-ghost use Rattle.text.specs.Text.{bytesOf, hexOf};
+ghost use Rattle.text.specs.Text.{bytesOf};
+ghost use Rattle.printing.specs.Printing.{hexOf};
 ghost use Rattle.hexlines.specs.HexLines.{isCommand, closed, answered};
 ghost use Rattle.hexlines.specs.HexLines.{shown as HexLines·shown, turn as HexLines·turn};
 
@@ -68,7 +69,7 @@ fn print(a: Answer, resp: &[u8], out: &mut [u8]) -> usize
     requires { ⌜ 2 * length (now resp) + 1 ≤ length (now out) ⌝ }
     ensures { λ r. ⌜ (r ≡ length (hexOf (take (HexLines·shown a) (now (resp .entry))) ++ (10 ∷ []))) × (now (out .exit) ≡ splice (now (out .entry)) 0 (hexOf (take (HexLines·shown a) (now (resp .entry))) ++ (10 ∷ []))) ⌝ }
 {
-    let end = text::write_hex(out, 0, lines::first(resp, shown(a)));
+    let end = printing::write_hex(out, 0, lines::first(resp, shown(a)));
     octets::put_byte(out, end, 10);
     end + 1
 }

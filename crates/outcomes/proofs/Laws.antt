@@ -21,7 +21,7 @@ use Rattle.rules.specs.declared.Session.{Session}
 use Rattle.rules.specs.Bytes.{splice}
 use Rattle.rules.specs.Calls.{refusalNumber}
 use Rattle.octets.proofs.Laws.{splice-cons}
-use Rattle.text.proofs.Laws.{length-hex}
+use Rattle.printing.proofs.Laws.{length-hex}
 use Rattle.packed.specs.Packed.{packed}
 use Rattle.packed.proofs.Laws.{packed-length}
 use Rattle.outcomes.specs.Sums.{sumOf}

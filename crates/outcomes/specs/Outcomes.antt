@@ -15,7 +15,7 @@ use Rattle.rules.specs.declared.Answer.the-variants.{PoweredOn, Response, JobOp
 use Rattle.rules.specs.declared.Reply.{Reply}
 use Rattle.rules.specs.declared.Session.{Session}
 use Rattle.rules.specs.Calls.{refusalNumber}
-use Rattle.text.specs.Text.{hexOf}
+use Rattle.printing.specs.Printing.{hexOf}
 use Rattle.packed.specs.Packed.{packed}
 use Rattle.outcomes.specs.Sums.{sumOf, decimalOf}
 

@@ -13,7 +13,7 @@ ghost use lib.ListN.{length};
 ghost use Rattle.rules.specs.declared.Answer.the-variants.{Response, JobOpened};
 ghost use Rattle.rules.specs.Bytes.{splice};
 ghost use Rattle.rules.specs.Calls.{refusalNumber};
-ghost use Rattle.text.specs.Text.{hexOf};
+ghost use Rattle.printing.specs.Printing.{hexOf};
 ghost use Rattle.outcomes.specs.Outcomes.{kind, sessionText, sumText, sumsText, outcomeLine};
 
 // A character, and bytes in hex behind it.
@@ -22,7 +22,7 @@ fn write_marked(out: &mut [u8], at: usize, mark: u8, s: &[u8]) -> usize
     ensures { λ r. ⌜ (r ≡ at + length (mark ∷ hexOf (now (s .entry)))) × (now (out .exit) ≡ splice (now (out .entry)) at (mark ∷ hexOf (now (s .entry)))) ⌝ }
 {
     octets::put_byte(out, at, mark);
-    text::write_hex(out, at + 1, s)
+    printing::write_hex(out, at + 1, s)
 }
 
 fn number(r: Refusal) -> u8

@@ -139,7 +139,7 @@ fn byte(d: Desk, store: &mut [u8], work: &mut [u8], resp: &mut [u8], line: &mut 
     if b == 10 {
         return answer(d, store, work, resp, &line[..n]);
     }
-    let k = text::keep(line, n, b);
+    let k = keeping::keep(line, n, b);
     let s = d.session;
     Desk {
         session: s,

@@ -10,7 +10,7 @@ use Prim.Native.Nat.{ℕ}
 use denote.Ref.{RefT, now}
 use Rattle.rules.specs.declared.Reply.{Reply}
 use Rattle.rules.specs.declared.Session.{Session}
-use Rattle.text.specs.Text.{Kept, kept}
+use Rattle.keeping.specs.Keeping.{Kept, kept}
 use Rattle.lines.specs.declared.Said.{Said}
 use Rattle.lines.specs.Seen.{Seen, seen}
 use Rattle.placing.specs.Placing.{Placed, placed}
@@ -19,8 +19,8 @@ use Rattle.verbs.specs.declared.Verb.{Verb}
 use Rattle.issued.proofs.fixed_card.Reads as issued-fixed-card
 use Rattle.text.proofs.is_hex.Reads as text-is-hex
 use Rattle.text.proofs.read_hex.Reads as text-read-hex
-use Rattle.text.proofs.write_hex.Reads as text-write-hex
-use Rattle.text.proofs.keep.Reads as text-keep
+use Rattle.keeping.proofs.keep.Reads as keeping-keep
+use Rattle.printing.proofs.write_hex.Reads as printing-write-hex
 use Rattle.lines.proofs.first.Reads as lines-first
 use Rattle.lines.proofs.after.Reads as lines-after
 use Rattle.lines.proofs.bad.Reads as lines-bad
@@ -63,11 +63,15 @@ once-text-is-hex κs a r q s t = alike r q
 once-text-read-hex : (κs : _) (a : _) (s t : _) → text-read-hex.Post κs a tt s → text-read-hex.Post κs a tt t → now (s .0) ≡ now (t .0)
 once-text-read-hex κs a s t = alike _ _
 
-once-text-write-hex : (κs : _) (a : _) (r q : ℕ) (s t : _) → text-write-hex.Post κs a r s → text-write-hex.Post κs a q t → (r ≡ q) × (now (s .0) ≡ now (t .0))
-once-text-write-hex κs a r q s t x y = (alike r q (x .0) (y .0), alike _ _ (x .1) (y .1))
+-- ---- keeping
 
-once-text-keep : (κs : _) (a : _) (r q : ℕ) (s t : _) → text-keep.Post κs a r s → text-keep.Post κs a q t → (r ≡ q) × (now (s .0) ≡ now (t .0))
-once-text-keep κs a r q s t x y = by-kept x y
+once-keeping-keep : (κs : _) (a : _) (r q : ℕ) (s t : _) → keeping-keep.Post κs a r s → keeping-keep.Post κs a q t → (r ≡ q) × (now (s .0) ≡ now (t .0))
+once-keeping-keep κs a r q s t x y = by-kept x y
+
+-- ---- printing
+
+once-printing-write-hex : (κs : _) (a : _) (r q : ℕ) (s t : _) → printing-write-hex.Post κs a r s → printing-write-hex.Post κs a q t → (r ≡ q) × (now (s .0) ≡ now (t .0))
+once-printing-write-hex κs a r q s t x y = (alike r q (x .0) (y .0), alike _ _ (x .1) (y .1))
 
 -- ---- lines
 

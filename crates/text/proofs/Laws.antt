@@ -1,25 +1,22 @@
--- Laws: the hex of a row of bytes, and the bytes of a row of digits, place by place.
+-- Laws: the bytes of a row of digits, place by place.
 --
 --   digit-small            a digit is below 16
 --   bytes-at length-bytes  the bytes of a row of digits
 --   filled                 a row that is filled with the start of another
---   hex-high hex-low length-hex    the digits of a row of bytes
---   hex-append             the hex of two rows, one behind the other
---   keep-fits              a line that is kept fits its buffer
 --
 -- Assumes nothing.
-use mathlib.Core.Path.{_≡_, refl, sym, ap, subst, _∙_}
-use mathlib.Core.Bool.{Bool, true, false, _&&_}
+use mathlib.Core.Path.{_≡_, refl, ap, _∙_}
+use mathlib.Core.Bool.{Bool, true, false}
 use mathlib.Core.List.{List, [], _∷_, _++_, append-nil}
-use Prim.Native.Nat.{ℕ, zero, suc, _+_, _-_, _*_, _/_, _%_, _≤_, _<_}
-use native.Mathlib.Nat.{not-suc-le-zero, le-of-suc-le-suc}
+use Prim.Native.Nat.{ℕ, zero, suc, _+_, _-_, _*_, _/_, _≤_, _<_}
+use native.Mathlib.Nat.{not-suc-le-zero}
 use native.Mathlib.Omega.{arith}
 use lib.Dec.{leb}
 use lib.ListN.{length, take, drop, getD, drop-of-length-le}
-use borrow.Author.Tests.{leb-true, lt-ltb, le-ltb}
+use borrow.Author.Tests.{leb-true}
 use Rattle.rules.specs.Bytes.{iff}
-use Rattle.rules.proofs.Tests.{on, off, either, by-order, and-right}
-use Rattle.text.specs.Text.{between, isDigit, digitOf, bytesOf, glyph, hexOf, Kept, kept, keep}
+use Rattle.rules.proofs.Tests.{and-right}
+use Rattle.text.specs.Text.{between, digitOf, bytesOf}
 
 -- ---- digits
 
@@ -55,38 +52,3 @@ pub filled : (n : ℕ) (s d : List ℕ) → n ≡ length d → take n s ++ drop 
 filled n s d e =
     let h : length d ≤ n = omega arith in
     ap (λ (t : List ℕ). take n s ++ t) (drop-of-length-le d h) ∙ append-nil (take n s) ∙ ap (λ (k : ℕ). take k s) e
-
--- ---- digits of bytes
-
-pub length-hex : (s : List ℕ) → length (hexOf s) ≡ 2 * length s
-length-hex [] = refl
-length-hex (b ∷ s) = omega (arith, length-hex s)
-
-pub hex-high : (s : List ℕ) (i : ℕ) → i < length s → getD (hexOf s) (2 * i) 0 ≡ glyph (getD s i 0 / 16)
-hex-high [] i h = absurd (not-suc-le-zero h)
-hex-high (b ∷ s) zero h = refl
-hex-high (b ∷ s) (suc i) h =
-    let e : 2 * suc i ≡ suc (suc (2 * i)) = omega arith in
-    rw e (hex-high s i (le-of-suc-le-suc h))
-
-pub hex-low : (s : List ℕ) (i : ℕ) → i < length s → getD (hexOf s) (2 * i + 1) 0 ≡ glyph (getD s i 0 % 16)
-hex-low [] i h = absurd (not-suc-le-zero h)
-hex-low (b ∷ s) zero h = refl
-hex-low (b ∷ s) (suc i) h =
-    let e : 2 * suc i + 1 ≡ suc (suc (2 * i + 1)) = omega arith in
-    rw e (hex-low s i (le-of-suc-le-suc h))
-
-pub hex-append : (a b : List ℕ) → hexOf (a ++ b) ≡ hexOf a ++ hexOf b
-hex-append [] b = refl
-hex-append (x ∷ a) b = ap (λ (l : List ℕ). glyph (x / 16) ∷ (glyph (x % 16) ∷ l)) (hex-append a b)
-
--- ---- a line that is kept
-
-pub keep-fits : (s : List ℕ) (n b m : ℕ) (x : List ℕ) → n ≤ length s → kept m x ≡ keep s n b → m ≤ length s
-unfolding keep
-keep-fits s n b m x h e =
-    subst (λ (k : Kept). k .len ≤ length s) (sym e)
-    (by-order n (length s)
-    (λ l. subst (λ (k : Kept). k .len ≤ length s) (sym (on _ _ _ (lt-ltb n (length s) l))) (omega arith))
-    (λ l. subst (λ (k : Kept). k .len ≤ length s) (sym (off _ _ _ (le-ltb n (length s) l)))
-    (either (λ (k : Kept). k .len ≤ length s) (isDigit b && isDigit (getD s (n - 1) 0)) (omega arith) h)))

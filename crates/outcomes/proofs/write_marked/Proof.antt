@@ -1,8 +1,8 @@
 -- The character, and the hex right behind it.
 -- Assumes nothing.
 use denote.Ref.{now}
-use Rattle.text.specs.Text.{hexOf}
-use Rattle.text.proofs.Laws.{length-hex}
+use Rattle.printing.specs.Printing.{hexOf}
+use Rattle.printing.proofs.Laws.{length-hex}
 use Rattle.outcomes.proofs.Laws.{marked}
 use native.Mathlib.Omega.{arith}
 use borrow.Author.Needs.{needs}

@@ -6,7 +6,7 @@ use Prim.Native.Nat.{ℕ, _+_}
 use denote.Ref.{now}
 use lib.ListN.{length, take}
 use Rattle.rules.specs.Bytes.{splice}
-use Rattle.text.specs.Text.{hexOf}
+use Rattle.printing.specs.Printing.{hexOf}
 use Rattle.outcomes.specs.Outcomes.{kind}
 use Rattle.outcomes.proofs.Laws.{marked, take-few}
 use native.Mathlib.Omega.{arith}

@@ -6,7 +6,7 @@ use Prim.Native.Nat.{ℕ, _+_}
 use denote.Ref.{now}
 use lib.ListN.{length}
 use Rattle.rules.specs.Bytes.{splice}
-use Rattle.text.specs.Text.{hexOf}
+use Rattle.printing.specs.Printing.{hexOf}
 use Rattle.outcomes.specs.Outcomes.{sessionText}
 use borrow.Author.Needs.{needs}
 use Rattle.outcomes.proofs.write_session.Statement.{statement}

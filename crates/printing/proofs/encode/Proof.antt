@@ -6,12 +6,12 @@ use Prim.Native.Nat.{ℕ, _+_, _*_, _-_, _≤_, _<_}
 use denote.Ref.{now}
 use lib.ListN.{length, take, drop, set, length-set}
 use Rattle.octets.proofs.Laws.{fill-step, fill-done}
-use Rattle.text.specs.Text.{hexOf}
-use Rattle.text.proofs.Laws.{length-hex, hex-high, hex-low}
+use Rattle.printing.specs.Printing.{hexOf}
+use Rattle.printing.proofs.Laws.{length-hex, hex-high, hex-low}
 use native.Mathlib.Omega.{arith}
 use borrow.Author.Needs.{needs}
-use Rattle.text.proofs.encode.Statement.{statement}
-use Rattle.text.proofs.encode.Tie as tie
+use Rattle.printing.proofs.encode.Statement.{statement}
+use Rattle.printing.proofs.encode.Tie as tie
 
 abbrev Inv-loop : tie.InvT-loop
 Inv-loop dst₀ s i₀ dst i = (i ≤ length s) × (dst ≡ take (2 * i) (hexOf s) ++ drop (2 * i) dst₀) × (length dst ≡ length dst₀)

@@ -18,7 +18,8 @@ use borrow.Author.Tests.{lt-ltb, le-ltb}
 use Rattle.rules.specs.Bytes.{iff, all, splice}
 use Rattle.rules.proofs.Tests.{on, off, by-order, and-left, and-end, and-off-left, and-off-right}
 use Rattle.rules.proofs.Lists.{length-splice}
-use Rattle.text.specs.Text.{isDigit, isHex, Kept, kept, keep, keepAll, keptLine}
+use Rattle.text.specs.Text.{isDigit, isHex}
+use Rattle.keeping.specs.Keeping.{Kept, kept, keep, keepAll, keptLine}
 
 pub data Kin (m : ℕ) (p a : List ℕ) : Type 0 where
   itself : a ≡ p → Kin m p a

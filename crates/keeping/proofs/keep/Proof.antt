@@ -4,10 +4,10 @@ use mathlib.Core.Path.{sym, ap, _∙_}
 use Prim.Native.Nat.{_+_}
 use borrow.Author.Tests.{lt-ltb, le-ltb}
 use Rattle.rules.proofs.Tests.{on, off}
-use Rattle.text.specs.Text.{kept, keep}
+use Rattle.keeping.specs.Keeping.{kept, keep}
 use borrow.Author.Needs.{needs}
-use Rattle.text.proofs.keep.Statement.{statement}
-use Rattle.text.proofs.keep.Tie as tie
+use Rattle.keeping.proofs.keep.Statement.{statement}
+use Rattle.keeping.proofs.keep.Tie as tie
 
 put-byte-requires : tie.Need-put-byte-requires
 put-byte-requires c κs = search needs

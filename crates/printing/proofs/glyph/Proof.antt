@@ -3,10 +3,10 @@
 use mathlib.Core.Path.{sym}
 use borrow.Author.Tests.{lt-ltb, le-ltb}
 use Rattle.rules.proofs.Tests.{on, off}
-use Rattle.text.specs.Text.{glyph}
+use Rattle.printing.specs.Printing.{glyph}
 use borrow.Author.Needs.{needs}
-use Rattle.text.proofs.glyph.Statement.{statement}
-use Rattle.text.proofs.glyph.Tie as tie
+use Rattle.printing.proofs.glyph.Statement.{statement}
+use Rattle.printing.proofs.glyph.Tie as tie
 
 add-result : tie.Need-add-result
 add-result c = search needs

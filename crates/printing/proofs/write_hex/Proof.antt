@@ -4,12 +4,12 @@ use Prim.Native.Nat.{_+_, _*_, _-_}
 use denote.Ref.{now}
 use lib.ListN.{length}
 use Rattle.octets.proofs.Laws.{lent}
-use Rattle.text.specs.Text.{hexOf}
-use Rattle.text.proofs.Laws.{length-hex}
+use Rattle.printing.specs.Printing.{hexOf}
+use Rattle.printing.proofs.Laws.{length-hex}
 use native.Mathlib.Omega.{arith}
 use borrow.Author.Needs.{needs}
-use Rattle.text.proofs.write_hex.Statement.{statement}
-use Rattle.text.proofs.write_hex.Tie as tie
+use Rattle.printing.proofs.write_hex.Statement.{statement}
+use Rattle.printing.proofs.write_hex.Tie as tie
 
 mul-end : tie.Need-mul-end
 mul-end c = search needs
