@@ -10,7 +10,8 @@
 --   same-on same-off       two rows compared from a place on: the bytes there are equal, or not
 --   same-end               no bytes are left
 --   other-length           rows of two lengths are not the same
---   all-on all-off all-end a row tested from a place on: the element there passes, or not, or none is left
+--   Tested f s i           the loop that tests a row is at i: all of s pass where those from i on do
+--   tested-on tested-off tested-end    the element at i passes, or not; none is left
 --
 -- Assumes nothing.
 use mathlib.Core.Path.{_≡_, refl, sym, ap, _∙_}
@@ -107,15 +108,19 @@ other-length a b ne = go (sameBytes a b) refl
 
 -- ---- a row tested
 
-module _ (f : ℕ → Bool) (s : List ℕ) (i : ℕ) where
-  all-at : i < length s → all f (drop i s) ≡ (f (getD s i 0) && all f (drop (i + 1) s))
-  all-at h = rw (add-one, drop-cons s i 0 h)
+abbrev pub Tested : (ℕ → Bool) → List ℕ → ℕ → Type 0
+Tested f s i = (i ≤ length s) × (all f s ≡ all f (drop i s))
 
-  pub all-on : i < length s → f (getD s i 0) ≡ true → all f (drop i s) ≡ all f (drop (i + 1) s)
-  all-on h e = all-at h ∙ ap (λ (t : Bool). t && all f (drop (i + 1) s)) e
+module _ (f : ℕ → Bool) (s : List ℕ) (i : ℕ) (t : Tested f s i) where
+  pub tested-end : length s ≤ i → true ≡ all f s
+  tested-end h = sym (t .1 ∙ rw (drop-of-length-le s h))
 
-  pub all-off : i < length s → f (getD s i 0) ≡ false → all f (drop i s) ≡ false
-  all-off h e = all-at h ∙ and-off-left _ _ e
+  module _ (h : i < length s) where
+    tested-at : all f s ≡ (f (getD s i 0) && all f (drop (i + 1) s))
+    tested-at = t .1 ∙ rw (add-one, drop-cons s i 0 h)
 
-  pub all-end : length s ≤ i → all f (drop i s) ≡ true
-  all-end h = rw (drop-of-length-le s h)
+    pub tested-on : f (getD s i 0) ≡ true → Tested f s (i + 1)
+    tested-on e = (omega arith, tested-at ∙ ap (λ (b : Bool). b && all f (drop (i + 1) s)) e)
+
+    pub tested-off : f (getD s i 0) ≡ false → false ≡ all f s
+    tested-off e = sym (tested-at ∙ and-off-left _ _ e)

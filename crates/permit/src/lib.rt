@@ -85,9 +85,9 @@ pub fn command(well_formed: bool, session: Session, resp: usize, work: usize) ->
         return Permit::Denied(r);
     }
     let job = session.job;
-    if session::running(job) {
+    let Job::Idle = job else {
         return Permit::Denied(Refusal::JobOpen);
-    }
+    };
     Permit::Granted
 }
 
@@ -106,7 +106,7 @@ pub fn job_result(
         return Permit::Denied(r);
     }
     let job = session.job;
-    if !session::running(job) {
+    if let Job::Idle = job {
         return Permit::Denied(Refusal::NoJob);
     }
     if failed {

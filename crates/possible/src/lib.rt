@@ -8,28 +8,6 @@ ghost use mathlib.Core.Path.{_≡_};
 ghost use mathlib.Core.Bool.{_&&_, _||_};
 ghost use Rattle.rules.specs.Session.{chainOpen, restHeld, challengeHeld, jobOpen, chainOk, restOk, userKey, userAlgorithm, keyJobOk, jobOk, possible};
 
-fn chain_open(c: Chain) -> bool
-    ensures { λ r. ⌜ r ≡ chainOpen c ⌝ }
-{
-    if let Chain::Shut = c { false } else { true }
-}
-
-fn rest_held(r: Rest) -> bool
-    ensures { λ b. ⌜ b ≡ restHeld r ⌝ }
-{
-    if let Rest::Gone = r { false } else { true }
-}
-
-fn challenge_held(c: Challenge) -> bool
-    ensures { λ r. ⌜ r ≡ challengeHeld c ⌝ }
-{
-    if let Challenge::Unasked = c {
-        false
-    } else {
-        true
-    }
-}
-
 fn chain_ok(c: Chain) -> bool
     ensures { λ r. ⌜ r ≡ chainOk c ⌝ }
 {
@@ -118,10 +96,10 @@ fn job_ok(j: Job) -> bool
 fn both_held(c: Chain, r: Rest) -> bool
     ensures { λ b. ⌜ b ≡ (chainOpen c && restHeld r) ⌝ }
 {
-    if !chain_open(c) {
+    if let Chain::Shut = c {
         return false;
     }
-    rest_held(r)
+    if let Rest::Gone = r { false } else { true }
 }
 
 // A chain, a rest or a challenge beside an open job.
@@ -132,16 +110,20 @@ fn crowded(s: Session) -> bool
     let rest = s.rest;
     let challenge = s.challenge;
     let job = s.job;
-    if !session::running(job) {
+    if let Job::Idle = job {
         return false;
     }
-    if chain_open(chain) {
+    let Chain::Shut = chain else {
         return true;
-    }
-    if rest_held(rest) {
+    };
+    let Rest::Gone = rest else {
         return true;
+    };
+    if let Challenge::Unasked = challenge {
+        false
+    } else {
+        true
     }
-    challenge_held(challenge)
 }
 
 pub fn possible(s: Session) -> bool

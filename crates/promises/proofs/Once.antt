@@ -55,7 +55,6 @@ use Rattle.session.proofs.holding.Reads as session-holding
 use Rattle.session.proofs.with_challenge.Reads as session-with-challenge
 use Rattle.session.proofs.with_job.Reads as session-with-job
 use Rattle.session.proofs.chain_length.Reads as session-chain-length
-use Rattle.session.proofs.running.Reads as session-running
 use Rattle.possible.proofs.possible.Reads as possible-possible
 use Rattle.permit.proofs.power_on.Reads as permit-power-on
 use Rattle.permit.proofs.command.Reads as permit-command
@@ -183,9 +182,6 @@ once-session-with-job κs a r q s t = alike r q
 
 once-session-chain-length : (κs : _) (a : _) (r q : ℕ) (s t : _) → session-chain-length.Post κs a r s → session-chain-length.Post κs a q t → r ≡ q
 once-session-chain-length κs a r q s t = alike r q
-
-once-session-running : (κs : _) (a : _) (r q : Bool) (s t : _) → session-running.Post κs a r s → session-running.Post κs a q t → r ≡ q
-once-session-running κs a r q s t = alike r q
 
 -- ---- possible
 

@@ -5,7 +5,7 @@ use rules::Job;
 use rules::Rest;
 use rules::Session;
 ghost use mathlib.Core.Path.{_≡_};
-ghost use Rattle.rules.specs.Session.{cleared, holding, withChallenge, withJob, chainLength, running};
+ghost use Rattle.rules.specs.Session.{cleared, holding, withChallenge, withJob, chainLength};
 
 // ---- setters
 
@@ -88,10 +88,4 @@ pub fn chain_length(c: Chain) -> usize
             len,
         } => len,
     }
-}
-
-pub fn running(j: Job) -> bool
-    ensures { λ r. ⌜ r ≡ running j ⌝ }
-{
-    if let Job::Idle = j { false } else { true }
 }

@@ -1,7 +1,7 @@
 -- `numbers::be32` meets its contract: each of the four elements is a byte, so nothing wraps.
 -- Assumes nothing.
 use mathlib.Core.Path.{_≡_, ap}
-use Prim.Native.Nat.{ℕ, _+_}
+use Prim.Native.Nat.{ℕ, _+_, _*_, _^_, _<_}
 use native.Mathlib.Omega.{arith}
 use lib.ListN.{getD}
 use denote.Ref.{now}
@@ -43,41 +43,32 @@ shared-slice-read-fourth c = search needs
 cast-fourth : tie.Need-cast-fourth
 cast-fourth c = omega (arith, c .shared-slice-known4 .given (c .before .before .before .before .args .at + 3))
 
-mul-result : tie.Need-mul-result
-mul-result c =
+-- the sum of the four bytes fits, and so does each of its parts
+fits : (c : tie.After-shared-slice-known4) →
+    let a = c .before .before .before .before .args in
+    getD (now (a .s)) (a .at) 0 * 16777216 + getD (now (a .s)) (a .at + 1) 0 * 65536 + getD (now (a .s)) (a .at + 2) 0 * 256 + getD (now (a .s)) (a .at + 3) 0 < 2 ^ 32
+fits c =
     let at = c .before .before .before .before .args .at in
     let g = c .shared-slice-known4 .given in
     omega (arith, g at, g (at + 1), g (at + 2), g (at + 3))
+
+mul-result : tie.Need-mul-result
+mul-result c = omega (arith, fits c)
 
 mul-result-2 : tie.Need-mul-result-2
-mul-result-2 c =
-    let at = c .before .before .before .before .args .at in
-    let g = c .shared-slice-known4 .given in
-    omega (arith, g at, g (at + 1), g (at + 2), g (at + 3))
+mul-result-2 c = omega (arith, fits c)
 
 add-result : tie.Need-add-result
-add-result c =
-    let at = c .before .before .before .before .args .at in
-    let g = c .shared-slice-known4 .given in
-    omega (arith, g at, g (at + 1), g (at + 2), g (at + 3))
+add-result c = omega (arith, fits c)
 
 mul-result-3 : tie.Need-mul-result-3
-mul-result-3 c =
-    let at = c .before .before .before .before .args .at in
-    let g = c .shared-slice-known4 .given in
-    omega (arith, g at, g (at + 1), g (at + 2), g (at + 3))
+mul-result-3 c = omega (arith, fits c)
 
 add-result-2 : tie.Need-add-result-2
-add-result-2 c =
-    let at = c .before .before .before .before .args .at in
-    let g = c .shared-slice-known4 .given in
-    omega (arith, g at, g (at + 1), g (at + 2), g (at + 3))
+add-result-2 c = omega (arith, fits c)
 
 add-result-3 : tie.Need-add-result-3
-add-result-3 c =
-    let at = c .before .before .before .before .args .at in
-    let g = c .shared-slice-known4 .given in
-    omega (arith, g at, g (at + 1), g (at + 2), g (at + 3))
+add-result-3 c = omega (arith, fits c)
 
 returns : tie.Need-returns
 unfolding be16 be32

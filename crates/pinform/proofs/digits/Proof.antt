@@ -1,19 +1,18 @@
--- `pinform::digits` meets its contract. The loop's invariant: all are digits where those from i on are.
+-- `pinform::digits` meets its contract: its loop tests the row.
 -- Assumes nothing.
-use mathlib.Core.Path.{_≡_, refl, sym, _∙_}
-use Prim.Native.Nat.{_-_, _≤_}
+use mathlib.Core.Path.{refl}
+use Prim.Native.Nat.{_-_}
 use native.Mathlib.Omega.{arith}
 use borrow.Author.Needs.{needs}
-use lib.ListN.{length, drop}
-use Rattle.rules.specs.Bytes.{all}
+use lib.ListN.{length}
 use Rattle.rules.specs.Reference.{digit}
 use Rattle.rules.proofs.Tests.{passes, fails}
-use Rattle.octets.proofs.Laws.{all-on, all-off, all-end}
+use Rattle.octets.proofs.Laws.{Tested, tested-on, tested-off, tested-end}
 use Rattle.pinform.proofs.digits.Statement.{statement}
 use Rattle.pinform.proofs.digits.Tie as tie
 
 abbrev Inv-loop : tie.InvT-loop
-Inv-loop d i₀ i = (i ≤ length d) × (all digit d ≡ all digit (drop i d))
+Inv-loop d i₀ i = Tested digit d i
 
 abbrev μ-loop : tie.MeasureT-loop
 μ-loop d i₀ i = length d - i
@@ -30,7 +29,7 @@ digit-requires c κs = search needs
 returns : tie.Need-returns Inv-loop μ-loop
 returns c =
     let at = c .before .before .before in
-    sym (at .before .loop .inv .1 ∙ all-off digit _ _ (at .loop-test .taken) (fails (c .before .digit .ensures) (c .if1 .taken)))
+    tested-off digit _ _ (at .before .loop .inv) (at .loop-test .taken) (fails (c .before .digit .ensures) (c .if1 .taken))
 
 add-i : tie.Need-add-i Inv-loop μ-loop
 add-i c = omega arith
@@ -41,10 +40,10 @@ loop-less c = omega arith
 loop-again : tie.Need-loop-again Inv-loop μ-loop
 loop-again c =
     let at = c .before .before .before in
-    (omega arith, at .before .loop .inv .1 ∙ all-on digit _ _ (at .loop-test .taken) (passes (c .before .digit .ensures) (c .if1 .left)))
+    tested-on digit _ _ (at .before .loop .inv) (at .loop-test .taken) (passes (c .before .digit .ensures) (c .if1 .left))
 
 returns-2 : tie.Need-returns-2 Inv-loop μ-loop
-returns-2 c = sym (c .before .loop .inv .1 ∙ all-end digit _ _ (c .loop-test .left))
+returns-2 c = tested-end digit _ _ (c .before .loop .inv) (c .loop-test .left)
 
 pub digits-spec : {M : Type 1} → statement M
 digits-spec =

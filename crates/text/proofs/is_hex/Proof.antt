@@ -1,22 +1,21 @@
--- The loop's invariant: the row is of digits where its rest from i on is.
+-- `text::is_hex` meets its contract: an even length, and a loop that tests the row.
 -- Assumes nothing.
-use mathlib.Core.Path.{_≡_, refl, sym, _∙_}
-use Prim.Native.Nat.{_-_, _≤_, _%_}
+use mathlib.Core.Path.{refl, sym}
+use Prim.Native.Nat.{_-_, _%_}
 use denote.Ref.{now}
 use lib.Dec.{eqb}
-use lib.ListN.{length, drop}
+use lib.ListN.{length}
 use borrow.Author.Tests.{eq-eqb, ne-eqb}
-use Rattle.rules.specs.Bytes.{all}
 use Rattle.rules.proofs.Tests.{passes, fails, and-both, and-off-left, and-off-right}
 use Rattle.text.specs.Text.{isDigit, isHex}
-use Rattle.octets.proofs.Laws.{all-on, all-off, all-end}
+use Rattle.octets.proofs.Laws.{Tested, tested-on, tested-off, tested-end}
 use native.Mathlib.Omega.{arith}
 use borrow.Author.Needs.{needs}
 use Rattle.text.proofs.is_hex.Statement.{statement}
 use Rattle.text.proofs.is_hex.Tie as tie
 
 abbrev Inv-loop : tie.InvT-loop
-Inv-loop l i₀ i = (i ≤ length l) × (all isDigit l ≡ all isDigit (drop i l))
+Inv-loop l i₀ i = Tested isDigit l i
 
 abbrev μ-loop : tie.MeasureT-loop
 μ-loop l i₀ i = length l - i
@@ -39,8 +38,7 @@ unfolding isHex
 returns-2 c =
     let l = c .before .before .before .before .loop in
     let s = now (c .before .before .before .before .before .before .before .args .l) in
-    sym (and-off-right (eqb (length s % 2) 0) _ (l .inv .1
-    ∙ all-off isDigit s (l .i) (c .before .before .before .loop-test .taken) (fails (c .before .is-digit .ensures) (c .if2 .taken))))
+    sym (and-off-right (eqb (length s % 2) 0) _ (sym (tested-off isDigit s (l .i) (l .inv) (c .before .before .before .loop-test .taken) (fails (c .before .is-digit .ensures) (c .if2 .taken)))))
 
 add-i : tie.Need-add-i Inv-loop μ-loop
 add-i c = omega arith
@@ -51,17 +49,14 @@ loop-less c = omega arith
 loop-again : tie.Need-loop-again Inv-loop μ-loop
 loop-again c =
     let l = c .before .before .before .before .loop in
-    let s = now (c .before .before .before .before .before .before .before .args .l) in (
-      omega arith,
-      l .inv .1 ∙ all-on isDigit s (l .i) (c .before .before .before .loop-test .taken) (passes (c .before .is-digit .ensures) (c .if2 .left)),
-    )
+    tested-on isDigit _ (l .i) (l .inv) (c .before .before .before .loop-test .taken) (passes (c .before .is-digit .ensures) (c .if2 .left))
 
 returns-3 : tie.Need-returns-3 Inv-loop μ-loop
 unfolding isHex
 returns-3 c =
     let l = c .before .loop in
     let s = now (c .before .before .before .before .args .l) in
-    sym (and-both (eqb (length s % 2) 0) _ (eq-eqb _ _ (c .before .before .if1 .left)) (l .inv .1 ∙ all-end isDigit s (l .i) (c .loop-test .left)))
+    sym (and-both (eqb (length s % 2) 0) _ (eq-eqb _ _ (c .before .before .if1 .left)) (sym (tested-end isDigit s (l .i) (l .inv) (c .loop-test .left))))
 
 pub is-hex-spec : {M : Type 1} → statement M
 is-hex-spec =
