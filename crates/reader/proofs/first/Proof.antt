@@ -14,18 +14,17 @@ use prog.Memory.{Memory}
 use prog.Routine.{Routine}
 use prog.Wp.{Heap, Calls, Loops, WpFn, Tables}
 use ghost.Atoms.{Atoms, sem}
-use contract.Lifetimes.{Lfts}
 use contract.Monad.{Fun, fact}
 use contract.Running.{givenOf, tables, tablesOf}
 use types.Kit.{Given, ‵, raw, _⊛_, ⋆, some, later, _$_, _∵_, !, qed, by, move, drop, use1, use2, split, join, pick, fsplit, fjoin, suffices, frame, await, done}
 use types.Run.{look, init, forget, stop, from, load, and-then, no-more, land, returns, enter, alloc1, alloc0, params1, pass1, pass0, free1, free0}
 use sound.WpLaws.{FmC, fmOf, WpFn-mono}
-use denote.RattleType.{RattleType, owns}
+use denote.RattleType.{owns}
 use denote.Laws.{Is, shows}
 use denote.Plain.{uint-vals, uint-tells, uint-makes}
 use denote.Builtin.{u8}
 use denote.Ref.{RefT, NamedLft, now}
-use denote.Signature.{plain, namedLft}
+use denote.Signature.{plain}
 use denote.Slice.{sliceVal, ShrSlice, slice-vals, shr-slice-tells, shr-slice-lawful, shr-slice-copy}
 use denote.Steps.{owned, peeks, heard, nothing}
 use denote.Enum.Laws as EL
@@ -45,6 +44,7 @@ use Rattle.rules.proofs.Found.Laws as S′
 use Rattle.reader.specs.declared.Reader.{Reader}
 use Rattle.reader.proofs.Reader as T
 use Rattle.reader.proofs.Reader.Laws as T′
+use Rattle.reader.proofs.Carried.{B}
 use Rattle.reader.proofs.new as new
 use Rattle.reader.proofs.new.Symbol as new-def
 use Rattle.reader.proofs.new.Symbol.{name as #reader·new}
@@ -57,10 +57,6 @@ use Rattle.reader.proofs.first.Key.{name as #reader·first}
 use Rattle.reader.proofs.first as first
 use Rattle.reader.proofs.first.Statement as stated
 use Rattle.reader.proofs.first.Code as code
-
--- the struct's type, over the signature's lifetimes
-abbrev B : Lfts 1 → RattleType
-B κs = T.the-row (namedLft 1 0 tt κs)
 
 abbrev stayed : Stays (first.ended .signature .params) (first.ended .kept)
 stayed = (stay-none-slice (0 ∷ []) tt (plain (λ _. u8)) yes, (stay-none (λ _. u8) yes, tt))
