@@ -3,6 +3,7 @@
 --   and-on                 the next test of a row, where the first passes
 --   all-split              a row of tests in two parts
 --   below-more below-off   one number more passes, or a number below does not
+--   all-four               the four bytes of the keys' algorithms, tested one after the other
 --   mark-number            the mark is compared as a number
 --
 -- Assumes nothing.
@@ -15,10 +16,11 @@ use native.Mathlib.Omega.{arith}
 use lib.Dec.{eqb, ltb}
 use lib.ListN.{length, getD, List·getD-eq-default}
 use borrow.Author.Tests.{ltb-true}
-use Rattle.rules.specs.Bytes.{allTrue, allBelow, sameBytes, part, be16, be32, be64}
+use Rattle.rules.specs.Bytes.{allTrue, all, allBelow, sameBytes, part, be16, be32, be64}
 use Rattle.rules.specs.Store.{mark}
 use Rattle.rules.specs.Claims.Lengths.{Bytes}
-use Rattle.rules.proofs.Tests.{at-each, and-both, by-order}
+use Rattle.rules.proofs.Tests.{at-each, and-both, and-end, by-order}
+use Rattle.rules.proofs.Lists.{part-none, part-cons}
 use Rattle.numbers.proofs.Numbers.{number64, number-same}
 
 -- ---- tests in a row
@@ -42,6 +44,11 @@ module _ (f : ℕ → Bool) (n : ℕ) where
       go : (t : Bool) → allBelow f n ≡ t → allBelow f n ≡ false
       go true e = absurd (true≢false (sym (at-each f n e i h) ∙ q))
       go false e = e
+
+pub all-four : (f : ℕ → Bool) (s : List ℕ) → 32 ≤ length s
+    → all f (part s 28 4) ≡ (f (getD s 28 0) && (f (getD s 29 0) && (f (getD s 30 0) && f (getD s 31 0))))
+all-four f s h =
+    rw (part-cons s 28 3 (omega arith), part-cons s 29 2 (omega arith), part-cons s 30 1 (omega arith), part-cons s 31 0 (omega arith), part-none s 32, and-end (f (getD s 31 0)))
 
 -- ---- the mark
 

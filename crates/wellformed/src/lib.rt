@@ -54,24 +54,20 @@ fn algorithm_ok(a: u8) -> bool
     a == 0x11
 }
 
-fn algorithms_ok(keys: &[u8]) -> bool
-    ensures { λ r. ⌜ r ≡ all algorithmOk (now (keys .entry)) ⌝ }
-{
-    let mut i = 0;
-    while i < keys.len() {
-        if !algorithm_ok(keys[i]) {
-            return false;
-        }
-        i += 1;
-    }
-    true
-}
-
 fn keys_ok(store: &[u8]) -> bool
     requires { ⌜ length (now store) ≡ 33400 ⌝ }
     ensures { λ r. ⌜ r ≡ all algorithmOk (part (now (store .entry)) 28 4) ⌝ }
 {
-    algorithms_ok(&store[28..32])
+    if !algorithm_ok(store[28]) {
+        return false;
+    }
+    if !algorithm_ok(store[29]) {
+        return false;
+    }
+    if !algorithm_ok(store[30]) {
+        return false;
+    }
+    algorithm_ok(store[31])
 }
 
 // No length passes its capacity.
