@@ -93,6 +93,7 @@ fn job_ok(j: Job) -> bool
     le <= 256
 }
 
+// A chain and a rest at once.
 fn both_held(c: Chain, r: Rest) -> bool
     ensures { λ b. ⌜ b ≡ (chainOpen c && restHeld r) ⌝ }
 {

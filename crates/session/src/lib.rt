@@ -1,4 +1,4 @@
-// The session: setters that several commands use, and the number of bytes that it says are held.
+// The session: setters that several commands use, and the number of bytes of a chain.
 use rules::Chain;
 use rules::Challenge;
 use rules::Job;

@@ -1,4 +1,4 @@
--- `numbers::be64` meets its contract.
+-- `numbers::be64` meets its contract: two numbers of 32 bits, one behind the other.
 -- Assumes nothing.
 use native.Mathlib.Omega.{arith}
 use borrow.Author.Needs.{needs}

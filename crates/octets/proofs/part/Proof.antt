@@ -1,4 +1,4 @@
--- `octets::part` meets its contract.
+-- `octets::part` meets its contract: the stretch is lent on.
 -- Assumes nothing.
 use native.Mathlib.Nat.{add-sub-cancel-left}
 use borrow.Author.Needs.{needs}

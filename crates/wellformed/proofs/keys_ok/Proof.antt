@@ -22,7 +22,7 @@ algorithm-ok-requires c κs = search needs
 returns : tie.Need-returns
 returns c = sym (all-four algorithmOk _ (omega arith) ∙ and-off-left _ _ (fails (c .before .algorithm-ok .ensures) (c .if1 .taken)))
 
--- the first has passed, the first two, the first three
+-- the first has passed, and the first two
 past-1 : (c : tie.Else1) → let s = now (c .before .before .before .before .args .store) in
     all algorithmOk (part s 28 4) ≡ (algorithmOk (getD s 29 0) && (algorithmOk (getD s 30 0) && algorithmOk (getD s 31 0)))
 past-1 c = all-four algorithmOk _ (omega arith) ∙ and-on _ _ (passes (c .before .algorithm-ok .ensures) (c .if1 .left))
