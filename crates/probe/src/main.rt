@@ -82,40 +82,20 @@ fn lend_named(
     requires { ⌜ (d .store ≤ length (now store)) × (d .work ≤ length (now work)) × (d .resp ≤ length (now resp)) ⌝ }
     ensures { λ r. ⌜ (r .store ≤ length (now (store .entry))) × (r .work ≤ length (now (work .entry))) × (r .resp ≤ length (now (resp .entry))) × (r .n ≡ 0) ⌝ }
 {
-    let s = d.session;
+    let mut next = d;
+    next.n = 0;
     match b {
         Buffer::Store => {
-            let k = lend(store, d.store, line, from);
-            Desk {
-                session: s,
-                store: k,
-                work: d.work,
-                resp: d.resp,
-                n: 0,
-                more: true,
-            }
+            next.store = lend(store, d.store, line, from);
+            next
         }
         Buffer::Work => {
-            let k = lend(work, d.work, line, from);
-            Desk {
-                session: s,
-                store: d.store,
-                work: k,
-                resp: d.resp,
-                n: 0,
-                more: true,
-            }
+            next.work = lend(work, d.work, line, from);
+            next
         }
         Buffer::Resp => {
-            let k = lend(resp, d.resp, line, from);
-            Desk {
-                session: s,
-                store: d.store,
-                work: d.work,
-                resp: k,
-                n: 0,
-                more: true,
-            }
+            next.resp = lend(resp, d.resp, line, from);
+            next
         }
     }
 }
@@ -139,16 +119,9 @@ fn byte(d: Desk, store: &mut [u8], work: &mut [u8], resp: &mut [u8], line: &mut 
     if b == 10 {
         return answer(d, store, work, resp, &line[..n]);
     }
-    let k = keeping::keep(line, n, b);
-    let s = d.session;
-    Desk {
-        session: s,
-        store: d.store,
-        work: d.work,
-        resp: d.resp,
-        n: k,
-        more: true,
-    }
+    let mut next = d;
+    next.n = keeping::keep(line, n, b);
+    next
 }
 
 fn bytes(
@@ -179,15 +152,9 @@ fn read(d: Desk, store: &mut [u8], work: &mut [u8], resp: &mut [u8], line: &mut 
     let got = libc::read(STDIN_FILENO, &mut given);
     let m = io::count(got, &given);
     if m == 0 {
-        let s = d.session;
-        return Desk {
-            session: s,
-            store: d.store,
-            work: d.work,
-            resp: d.resp,
-            n: d.n,
-            more: false,
-        };
+        let mut last = d;
+        last.more = false;
+        return last;
     }
     bytes(d, store, work, resp, line, &given[..m])
 }

@@ -40,9 +40,9 @@ same-length-5 c = search needs
 
 returns-2 : tie.Need-returns-2
 returns-2 c =
-    let i = c .before .before .before .before .before .before .before .before .before .before in
+    let i = c .before .before .before .before .before .before .before .before .before in
     let a = i .args in
-    let k = c .before .before .before .keep in
+    let k = c .before .before .keep in
     (i .pre .0, i .pre .1, i .pre .2, keep-fits (now (a .line)) (a .d .n) (a .b) (k .result) (k .last .0) (i .pre .5) (k .ensures))
 
 pub byte-spec : {M : Type 1} → statement M
