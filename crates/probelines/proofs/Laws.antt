@@ -17,8 +17,8 @@ use Rattle.rules.proofs.Tests.{off, and-left, and-off-left}
 use Rattle.octets.proofs.Laws.{whole}
 use Rattle.text.specs.Text.{isHex, bytesOf}
 use Rattle.text.proofs.Laws.{length-bytes}
-use Rattle.packed.specs.declared.Taken.the-variants.{No}
-use Rattle.packed.specs.Packed.{sessionIn}
+use Rattle.unpacked.specs.declared.Taken.the-variants.{No}
+use Rattle.unpacked.specs.Unpacked.{sessionIn}
 
 -- ---- a session
 

@@ -22,9 +22,9 @@ use Rattle.lines.specs.declared.What.{What}
 use Rattle.lines.specs.Asked.{asked}
 use Rattle.lines.specs.Seen.{Seen, tells, badLine}
 use Rattle.placing.specs.Placing.{place}
-use Rattle.packed.specs.declared.Taken.{Taken}
-use Rattle.packed.specs.declared.Taken.the-variants.{Is, No}
-use Rattle.packed.specs.Packed.{sessionIn}
+use Rattle.unpacked.specs.declared.Taken.{Taken}
+use Rattle.unpacked.specs.declared.Taken.the-variants.{Is, No}
+use Rattle.unpacked.specs.Unpacked.{sessionIn}
 use Rattle.outcomes.specs.Outcomes.{outcomeLine}
 use Rattle.verbs.specs.declared.Buffer.{Buffer}
 use Rattle.verbs.specs.declared.Buffer.the-variants.{Store, Work, Resp}

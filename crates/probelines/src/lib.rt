@@ -1,9 +1,9 @@
 // Probe lines: what a line of the program probe comes to on the card. One function for each kind of line.
 use lines::Said;
 use lines::What;
-use packed::Taken;
 use rules::Reply;
 use rules::Session;
+use unpacked::Taken;
 use verbs::Buffer;
 use verbs::Verb;
 ghost use mathlib.Core.Path.{_≡_};
@@ -82,7 +82,7 @@ fn session_at(digits: &[u8]) -> Taken
     }
     let mut bytes = [0u8; 64];
     text::read_hex(&mut bytes, 0, digits, 64);
-    packed::session_in(&bytes)
+    unpacked::session_in(&bytes)
 }
 
 fn take(session: Session, t: Taken, out: &mut [u8]) -> Said

@@ -14,7 +14,7 @@ use Rattle.keeping.specs.Keeping.{Kept, kept}
 use Rattle.lines.specs.declared.Said.{Said}
 use Rattle.lines.specs.Seen.{Seen, seen}
 use Rattle.placing.specs.Placing.{Placed, placed}
-use Rattle.packed.specs.declared.Taken.{Taken}
+use Rattle.unpacked.specs.declared.Taken.{Taken}
 use Rattle.verbs.specs.declared.Verb.{Verb}
 use Rattle.issued.proofs.fixed_card.Reads as issued-fixed-card
 use Rattle.text.proofs.is_hex.Reads as text-is-hex
@@ -26,7 +26,7 @@ use Rattle.lines.proofs.after.Reads as lines-after
 use Rattle.lines.proofs.bad.Reads as lines-bad
 use Rattle.hexcalls.proofs.call.Reads as hexcalls-call
 use Rattle.packed.proofs.pack.Reads as packed-pack
-use Rattle.packed.proofs.session_in.Reads as packed-session-in
+use Rattle.unpacked.proofs.session_in.Reads as unpacked-session-in
 use Rattle.outcomes.proofs.write.Reads as outcomes-write
 use Rattle.verbs.proofs.verb_of.Reads as verbs-verb-of
 use Rattle.placing.proofs.place.Reads as placing-place
@@ -94,8 +94,10 @@ once-hexcalls-call κs a r q s t x y = let e = by-outcome x y in (e .0, e .1, e 
 once-packed-pack : (κs : _) (a : _) (s t : _) → packed-pack.Post κs a tt s → packed-pack.Post κs a tt t → now (s .0) ≡ now (t .0)
 once-packed-pack κs a s t = alike _ _
 
-once-packed-session-in : (κs : _) (a : _) (r q : Taken) (s t : _) → packed-session-in.Post κs a r s → packed-session-in.Post κs a q t → r ≡ q
-once-packed-session-in κs a r q s t = alike r q
+-- ---- unpacked
+
+once-unpacked-session-in : (κs : _) (a : _) (r q : Taken) (s t : _) → unpacked-session-in.Post κs a r s → unpacked-session-in.Post κs a q t → r ≡ q
+once-unpacked-session-in κs a r q s t = alike r q
 
 -- ---- outcomes
 

@@ -13,7 +13,7 @@ use Rattle.verbs.proofs.Verb.{the-type}
 use Rattle.verbs.specs.declared.Verb.{Verb}
 use Rattle.verbs.specs.declared.Verb.the-variants.{Lend, Put, Session, PowerOn, Ask, Other}
 use Rattle.verbs.specs.Verbs.{verbOf}
-use Rattle.packed.specs.declared.Taken.{Taken}
+use Rattle.unpacked.specs.declared.Taken.{Taken}
 use Rattle.probelines.specs.ProbeLines.{asks, sessionAt, taken, byVerb, answered}
 use borrow.Author.Needs.{needs}
 use Rattle.probelines.proofs.answer.Statement.{statement}

@@ -3,7 +3,7 @@
 use mathlib.Core.Path.{ap, sym, _∙_}
 use denote.Ref.{now}
 use Rattle.rules.proofs.Tests.{on, off, passes, fails}
-use Rattle.packed.specs.Packed.{sessionIn}
+use Rattle.unpacked.specs.Unpacked.{sessionIn}
 use Rattle.probelines.proofs.Laws.{session-odd, session-even}
 use Rattle.probelines.specs.ProbeLines.{sessionAt}
 use native.Mathlib.Omega.{arith}

@@ -3,7 +3,7 @@
 use mathlib.Core.Path.{ap, sym, _∙_}
 use denote.Ref.{now}
 use Rattle.rules.specs.Session.{state}
-use Rattle.packed.specs.declared.Taken.{Taken}
+use Rattle.unpacked.specs.declared.Taken.{Taken}
 use Rattle.probelines.specs.ProbeLines.{taken}
 use borrow.Author.Needs.{needs}
 use Rattle.probelines.proofs.take.Statement.{statement}

@@ -1,9 +1,9 @@
 -- Part by part.
 -- Assumes nothing.
-use Rattle.packed.specs.Packed.{unpacked}
+use Rattle.unpacked.specs.Unpacked.{unpacked}
 use borrow.Author.Needs.{needs}
-use Rattle.packed.proofs.unpack.Statement.{statement}
-use Rattle.packed.proofs.unpack.Tie as tie
+use Rattle.unpacked.proofs.unpack.Statement.{statement}
+use Rattle.unpacked.proofs.unpack.Tie as tie
 
 flag-at-requires : tie.Need-flag-at-requires
 flag-at-requires c κs = search needs

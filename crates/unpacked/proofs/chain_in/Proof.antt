@@ -5,10 +5,10 @@ use denote.Ref.{now}
 use lib.ListN.{getD}
 use Rattle.rules.specs.declared.Chain.the-variants.{Open}
 use Rattle.rules.proofs.Tests.{on, off}
-use Rattle.packed.specs.Packed.{chainIn}
+use Rattle.unpacked.specs.Unpacked.{chainIn}
 use borrow.Author.Needs.{needs}
-use Rattle.packed.proofs.chain_in.Statement.{statement}
-use Rattle.packed.proofs.chain_in.Tie as tie
+use Rattle.unpacked.proofs.chain_in.Statement.{statement}
+use Rattle.unpacked.proofs.chain_in.Tie as tie
 
 flag-at-requires : tie.Need-flag-at-requires
 flag-at-requires c κs = search needs

@@ -3,10 +3,10 @@
 use mathlib.Core.Path.{sym, ap, _∙_}
 use Rattle.rules.specs.declared.Challenge.the-variants.{Awaits}
 use Rattle.rules.proofs.Tests.{on, off}
-use Rattle.packed.specs.Packed.{challengeIn}
+use Rattle.unpacked.specs.Unpacked.{challengeIn}
 use borrow.Author.Needs.{needs}
-use Rattle.packed.proofs.challenge_in.Statement.{statement}
-use Rattle.packed.proofs.challenge_in.Tie as tie
+use Rattle.unpacked.proofs.challenge_in.Statement.{statement}
+use Rattle.unpacked.proofs.challenge_in.Tie as tie
 
 flag-at-requires : tie.Need-flag-at-requires
 flag-at-requires c κs = search needs

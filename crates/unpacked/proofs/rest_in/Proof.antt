@@ -3,10 +3,10 @@
 use mathlib.Core.Path.{sym, ap₂, _∙_}
 use Rattle.rules.specs.declared.Rest.the-variants.{Left}
 use Rattle.rules.proofs.Tests.{on, off}
-use Rattle.packed.specs.Packed.{restIn}
+use Rattle.unpacked.specs.Unpacked.{restIn}
 use borrow.Author.Needs.{needs}
-use Rattle.packed.proofs.rest_in.Statement.{statement}
-use Rattle.packed.proofs.rest_in.Tie as tie
+use Rattle.unpacked.proofs.rest_in.Statement.{statement}
+use Rattle.unpacked.proofs.rest_in.Tie as tie
 
 flag-at-requires : tie.Need-flag-at-requires
 flag-at-requires c κs = search needs

@@ -5,10 +5,10 @@ use denote.Ref.{now}
 use lib.ListN.{getD}
 use Rattle.rules.specs.declared.Job.the-variants.{Running}
 use Rattle.rules.proofs.Tests.{on, off}
-use Rattle.packed.specs.Packed.{jobIn}
+use Rattle.unpacked.specs.Unpacked.{jobIn}
 use borrow.Author.Needs.{needs}
-use Rattle.packed.proofs.job_in.Statement.{statement}
-use Rattle.packed.proofs.job_in.Tie as tie
+use Rattle.unpacked.proofs.job_in.Statement.{statement}
+use Rattle.unpacked.proofs.job_in.Tie as tie
 
 flag-at-requires : tie.Need-flag-at-requires
 flag-at-requires c κs = search needs

@@ -9,11 +9,12 @@ use lib.ListN.{length}
 use borrow.Author.Tests.{eq-eqb, ne-eqb}
 use Rattle.rules.specs.Bytes.{sameBytes}
 use Rattle.rules.proofs.Tests.{on, off, passes, fails, and-both, and-off-left, and-off-right}
-use Rattle.packed.specs.declared.Taken.the-variants.{Is}
-use Rattle.packed.specs.Packed.{packed, sessionIn}
+use Rattle.unpacked.specs.declared.Taken.the-variants.{Is}
+use Rattle.packed.specs.Packed.{packed}
+use Rattle.unpacked.specs.Unpacked.{sessionIn}
 use borrow.Author.Needs.{needs}
-use Rattle.packed.proofs.session_in.Statement.{statement}
-use Rattle.packed.proofs.session_in.Tie as tie
+use Rattle.unpacked.proofs.session_in.Statement.{statement}
+use Rattle.unpacked.proofs.session_in.Tie as tie
 
 returns : tie.Need-returns
 unfolding sessionIn
