@@ -1,4 +1,6 @@
 // GET DATA (01, "GET DATA"): what is asked for, whether it may be read now, and the object as it goes out.
+mod access;
+
 use rules::Asked;
 use rules::Found;
 use rules::Header;
@@ -82,7 +84,7 @@ fn get_slot(
     if 12 <= slot {
         return saying::say(s, resp, 0x6A82);
     }
-    if !table::readable(s, slot) {
+    if !access::readable(s, slot) {
         return saying::say(s, resp, 0x6982);
     }
     give_object(s, work, resp, le, slot, store::object(store, slot))

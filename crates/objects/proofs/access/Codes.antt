@@ -18,7 +18,7 @@ use Rattle.rules.specs.Store.{slots, Access, always, PIN, never, contactRead, c
 use Rattle.rules.specs.Bytes.{iff}
 use Rattle.rules.specs.Session.{allows}
 use Rattle.rules.proofs.Tests.{at-each}
-use Rattle.table.specs.Codes.{accessCode}
+use Rattle.objects.specs.Codes.{accessCode}
 
 module _ (s : Session) where
   pub code-always : (a : Access) → accessCode a ≡ 0 → allows s a ≡ true

@@ -4,9 +4,9 @@ use mathlib.Core.Path.{sym, _∙_}
 use borrow.Author.Tests.{ne-eqb}
 use borrow.Author.Needs.{needs}
 use Rattle.rules.proofs.Tests.{off}
-use Rattle.table.proofs.Codes.{contact-code}
-use Rattle.table.proofs.contact_code.Statement.{statement}
-use Rattle.table.proofs.contact_code.Tie as tie
+use Rattle.objects.proofs.access.Codes.{contact-code}
+use Rattle.objects.proofs.access.contact_code.Statement.{statement}
+use Rattle.objects.proofs.access.contact_code.Tie as tie
 
 returns : tie.Need-returns
 returns c = search needs

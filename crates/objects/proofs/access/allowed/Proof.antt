@@ -1,9 +1,9 @@
 -- A condition of each code.
 -- Assumes nothing.
 use mathlib.Core.Path.{sym, _∙_}
-use Rattle.table.proofs.Codes.{code-always, code-pin, code-never}
-use Rattle.table.proofs.allowed.Statement.{statement}
-use Rattle.table.proofs.allowed.Tie as tie
+use Rattle.objects.proofs.access.Codes.{code-always, code-pin, code-never}
+use Rattle.objects.proofs.access.allowed.Statement.{statement}
+use Rattle.objects.proofs.access.allowed.Tie as tie
 
 returns : tie.Need-returns
 returns c = λ a s e p. sym (code-always s a (e ∙ c .if1 .taken))

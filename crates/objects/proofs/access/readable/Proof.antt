@@ -6,8 +6,8 @@ use Rattle.rules.specs.Session.{readable}
 use Rattle.rules.specs.Store.{never, contactRead, contactlessRead}
 use Rattle.rules.proofs.Tests.{on, off}
 use lib.ListN.{getD}
-use Rattle.table.proofs.readable.Statement.{statement}
-use Rattle.table.proofs.readable.Tie as tie
+use Rattle.objects.proofs.access.readable.Statement.{statement}
+use Rattle.objects.proofs.access.readable.Tie as tie
 
 contactless-code-requires : tie.Need-contactless-code-requires
 contactless-code-requires c κs = search needs
