@@ -50,7 +50,7 @@ called o out = shows (o .reply) (o .store) (o .work) (o .resp) out
 unfoldable pub powered : Outcome → List ℕ → List ℕ → Seen
 powered o p out = shows (o .reply) (o .store) (o .work) p out
 
--- a line with a call; of a job that failed there is no hex, and that is hex
+-- a line with a call: its digits are hex; a job that failed has none
 unfoldable pub asks : State → List ℕ → What → List ℕ → List ℕ → Seen
 asks st p w d out = iff (isHex d) (called ((call st (asked w p (bytesOf d))) .outcome) out) (tells st p badLine out)
 

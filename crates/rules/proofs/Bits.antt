@@ -5,7 +5,7 @@
 --   few-bits many-bits    the other way
 --
 -- Assumes nothing.
-use Prim.Native.Nat.{ℕ, suc, _+_, _-_, _*_, _^_, _≤_, _<_}
+use Prim.Native.Nat.{ℕ, suc, _+_, _*_, _^_, _≤_, _<_}
 use native.Mathlib.Nat.{lt-of-lt-of-le, le-trans, pow-suc, not-le-of-lt}
 use native.Mathlib.Omega.{arith}
 use lib.Pow.{pow-mono}

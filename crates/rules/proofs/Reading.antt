@@ -48,10 +48,6 @@ call-sends st resp c g j l =
     (lets-granted st (sends resp c)
     (record { store = g .wf; session = ap not (g .session); response = le-ltb (length resp) responseSize l; work = g .size; free = j; asked = refl; result = refl }))
 
-word-length : (n : ℕ) → length (word n) ≡ 2
-unfolding word
-word-length n = refl
-
 module _ (resp : List ℕ) (st : State) (d : List ℕ) (sw : ℕ) where
   pub data-delivered : dataOf (delivered resp (tells st (responds d sw))) ≡ d
   unfolding dataOf delivered toldBytes toldAnswer splice

@@ -30,7 +30,7 @@ use borrow.Author.Tests.{eq-eqb, ne-eqb, eqb-true}
 use Rattle.rules.specs.declared.Judged.{Judged}
 use Rattle.rules.specs.Bytes.{iff, part}
 use Rattle.rules.specs.Reference.{Reference, noneLeft, matches, charged}
-use Rattle.rules.specs.Command.{Which, thePin, thePuk, Step, charge, equal, unequal}
+use Rattle.rules.specs.Command.{Which, thePin, thePuk, Step, charge}
 use Rattle.rules.specs.Pin.{Refs, Said, Judgement, the, putThe, stepped, made, answer, triesWord, missed, refsIn, refsOnto, judgement, judgedOn}
 use Rattle.rules.proofs.Tests.{on, off, and-off-left, and-off-right, and-left}
 use Rattle.rules.proofs.Lists.{length-part}
