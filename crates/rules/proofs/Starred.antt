@@ -1,7 +1,8 @@
--- The table of specs/Claims/Starred holds: antt computes every row. Of the row of refusals one test is not computed at each call: that the store of a
--- card is well formed, and stays so in every run, is shown.
+-- The table of specs/Claims/Starred holds: antt computes every row. Of the row of refusals two tests are not computed at each call of a run: that the
+-- store of a card is well formed and stays so, and that the work area keeps its size, is shown.
 --
 --   judged w st k          the row of refusals, where w says whether the store is well formed
+--   inRun st k             the same in a run
 --   quick r                a row, computed by it
 --   quick-passes           a row that passes so, passes
 --   starred                the claim
@@ -13,6 +14,7 @@ use mathlib.Core.List.{List, [], _∷_, map}
 use Prim.Native.Nat.{ℕ}
 use lib.Dec.{ltb, eqb}
 use lib.ListN.{length, replicate, length-replicate}
+use borrow.Author.Tests.{eq-eqb}
 use Rattle.rules.specs.declared.Refusal.the-variants.{IllStore, IllSession, ShortResponse, WrongWork, JobOpen, NoJob, WrongResult}
 use Rattle.rules.specs.declared.Permit.{Permit}
 use Rattle.rules.specs.declared.Permit.the-variants.{Granted, Denied}
@@ -25,7 +27,7 @@ use Rattle.rules.specs.Calls.{Call, powers, sends, finishes, illSession,
 use Rattle.rules.specs.Runs.{leaves}
 use Rattle.rules.specs.Claims.Invariants.{Plain}
 use Rattle.rules.specs.Claims.Starred.{Card, issued, filled, overlong, storeOf, fixed, Line, _⇒_, follows, Row, fact, plays, playsAir, from, powered, passes, bytes, sized, sw, job, refused, storeIs, workIs, both, asAdmin, zeroFirst, behind, table, Holds}
-use Rattle.rules.proofs.Tests.{and-left, and-right, and-both}
+use Rattle.rules.proofs.Tests.{off, and-left, and-right, and-both}
 use Rattle.rules.proofs.Reading.{all-bytes}
 use Rattle.rules.proofs.Kept.{Well}
 use Rattle.rules.proofs.Invariants.{power-well, call-kept}
@@ -51,6 +53,23 @@ call-is w st k e = ap (λ (b : Bool). decided st k (judged b st k)) e
 
 -- ---- lines from a power-on
 
+-- the row of refusals in a run, where the store is well formed and the work area has its size
+unfoldable inRun : State → Call → Permit
+inRun st k =
+    iff (illSession k (st .session)) (Denied IllSession)
+    (iff (shortResponse k) (Denied ShortResponse)
+    (iff (interrupts k (st .session)) (Denied JobOpen)
+    (iff (unasked k (st .session)) (Denied NoJob)
+    (iff (wrongResult k (st .session)) (Denied WrongResult)
+    Granted))))
+
+run-is : (st : State) (k : Call) → Well st → call st k ≡ decided st k (inRun st k)
+unfolding judged inRun
+run-is st k g =
+    call-is true st k (g .wf) ∙ ap (decided st k) (off _ _ _ refl
+    ∙ ap (λ (p : Permit). iff (illSession k (st .session)) (Denied IllSession) (iff (shortResponse k) (Denied ShortResponse) p))
+    (off _ _ _ (ap not (eq-eqb (length (st .work)) workSize (g .size)))))
+
 abbrev plain : Call → Bool
 plain (powers air) = true
 plain (sends resp c) = all (λ b. ltb b 256) c
@@ -63,14 +82,14 @@ plain-is (finishes resp failed r) e = tt
 
 unfoldable runs : State → List Line → Bool
 runs st [] = true
-runs st ((k ⇒ t) ∷ ls) = let r = decided st k (judged true st k) in let b = runs (leaves r) ls in plain k && (t (r .outcome) && b)
+runs st ((k ⇒ t) ∷ ls) = let r = decided st k (inRun st k) in let b = runs (leaves r) ls in plain k && (t (r .outcome) && b)
 
 runs-follows : (ls : List Line) (st : State) → Well st → runs st ls ≡ true → follows st ls ≡ true
 unfolding runs follows
 runs-follows [] st g e = refl
 runs-follows ((k ⇒ t) ∷ ls) st g e =
-    let r : Result = decided st k (judged true st k) in
-    let q : call st k ≡ r = call-is true st k (g .wf) in
+    let r : Result = decided st k (inRun st k) in
+    let q : call st k ≡ r = run-is st k g in
     let m : (t (r .outcome) && runs (leaves r) ls) ≡ true = and-right (plain k) _ e in
     let h : Well (leaves r) = subst (λ (x : Result). Well (leaves x)) q (call-kept st g k (plain-is k (and-left (plain k) _ e)) .well) in
     subst (λ (x : Result). (t (x .outcome) && follows (leaves x) ls) ≡ true) (sym q)
@@ -148,7 +167,7 @@ all-pass [] e = refl
 all-pass (r ∷ rs) e = and-both _ _ (quick-passes r (and-left (quick r) _ e)) (all-pass rs (and-right (quick r) _ e))
 
 computed : allTrue (map quick table) ≡ true
-unfolding book fixed fair judged runs tries quick bytes sized sw job refused storeIs workIs both asAdmin zeroFirst behind
+unfolding book fixed fair judged inRun runs tries quick bytes sized sw job refused storeIs workIs both asAdmin zeroFirst behind
 computed = refl
 
 pub starred : Holds
