@@ -1,4 +1,4 @@
-// From bytes to a command (01, "From bytes to a command"): check 1 on the bytes, checks 2 to 5 on the header, and the data.
+// From bytes to a command (01, "From bytes to a command"): check 1 on the bytes, checks 2 to 5 on the header.
 use rules::Checked;
 use rules::Header;
 ghost use mathlib.Core.Path.{_≡_};
@@ -6,8 +6,7 @@ ghost use mathlib.Core.Bool.{not, _&&_, _||_};
 ghost use Prim.Native.Nat.{_+_, _≤_};
 ghost use lib.Dec.{eqb};
 ghost use lib.ListN.{length};
-ghost use Rattle.rules.specs.Command.{leOf, header, fieldOf, parseLong, parse, known, chains, contactOnly, admit, check};
-ghost use Rattle.apdu.specs.Shape.{Shaped};
+ghost use Rattle.rules.specs.Command.{leOf, header, parseLong, parse, known, chains, contactOnly, admit, check};
 
 // ---- check 1
 
@@ -179,16 +178,4 @@ pub fn check(contactless: bool, c: &[u8]) -> Checked
         Checked::Failed(sw) => Checked::Failed(sw),
         Checked::Passed(h) => admit(contactless, h),
     }
-}
-
-// The data of a command: that stretch of it.
-pub fn field(c: &[u8], h: Header) -> &[u8]
-    requires { ⌜ Shaped (now c) h ⌝ }
-    ensures { λ r. ⌜ now r ≡ fieldOf (now (c .entry)) h ⌝ }
-{
-    let lc = h.lc;
-    if lc == 0 {
-        return &c[..0];
-    }
-    octets::part(c, 5, lc)
 }

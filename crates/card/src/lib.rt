@@ -3,6 +3,7 @@
 use rules::Answer;
 use rules::Challenge;
 use rules::Checked;
+use rules::Header;
 use rules::Permit;
 use rules::Refusal;
 use rules::Reply;
@@ -15,7 +16,9 @@ ghost use lib.ListN.{length};
 ghost use Rattle.rules.specs.declared.Session.{Session};
 ghost use Rattle.rules.specs.Store.{wellFormed};
 ghost use Rattle.rules.specs.Session.{state, possible};
+ghost use Rattle.rules.specs.Command.{fieldOf};
 ghost use Rattle.rules.specs.Calls.{outcome, delivered, command, powers, sends, finishes, call};
+ghost use Rattle.apdu.specs.Shape.{Shaped};
 
 // ---- power-on
 
@@ -40,6 +43,18 @@ pub fn power_on(store: &[u8], work: &mut [u8], contactless: bool) -> Reply
 
 // ---- command
 
+// The data of a command: that stretch of it.
+fn field(c: &[u8], h: Header) -> &[u8]
+    requires { ⌜ Shaped (now c) h ⌝ }
+    ensures { λ r. ⌜ now r ≡ fieldOf (now (c .entry)) h ⌝ }
+{
+    let lc = h.lc;
+    if lc == 0 {
+        return &c[..0];
+    }
+    octets::part(c, 5, lc)
+}
+
 // Every command drops a held challenge; 87 may compare it first.
 fn obey(session: Session, store: &mut [u8], work: &mut [u8], resp: &mut [u8], cmd: &[u8]) -> Reply
     requires { ⌜ (258 ≤ length (now resp)) × (wellFormed (now store) ≡ true) × (possible session ≡ true) × (length (now work) ≡ 13321) ⌝ }
@@ -49,9 +64,7 @@ fn obey(session: Session, store: &mut [u8], work: &mut [u8], resp: &mut [u8], cm
     let s = session::with_challenge(session, Challenge::Unasked);
     match apdu::check(session.contactless, cmd) {
         Checked::Failed(sw) => saying::drop_say(s, work, resp, sw),
-        Checked::Passed(h) => {
-            commands::rule(challenge, s, store, work, resp, h, apdu::field(cmd, h))
-        }
+        Checked::Passed(h) => commands::rule(challenge, s, store, work, resp, h, field(cmd, h)),
     }
 }
 

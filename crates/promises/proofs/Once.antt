@@ -84,7 +84,6 @@ use Rattle.sending.proofs.send.Reads as sending-send
 use Rattle.sending.proofs.told.Reads as sending-told
 use Rattle.sending.proofs.fetch.Reads as sending-fetch
 use Rattle.apdu.proofs.check.Reads as apdu-check
-use Rattle.apdu.proofs.field.Reads as apdu-field
 use Rattle.objects.proofs.get_data.Reads as objects-get-data
 use Rattle.putting.proofs.put_data.Reads as putting-put-data
 use Rattle.keys.proofs.authenticate.Reads as keys-authenticate
@@ -333,9 +332,6 @@ once-sending-fetch κs a r q s t x y = let e = by-outcome (x []) (y []) in (e .0
 
 once-apdu-check : (κs : _) (a : _) (r q : Checked) (s t : _) → apdu-check.Post κs a r s → apdu-check.Post κs a q t → r ≡ q
 once-apdu-check κs a r q s t = alike r q
-
-once-apdu-field : (κs : _) (a : _) (r q : RefT (List ℕ)) (s t : _) → apdu-field.Post κs a r s → apdu-field.Post κs a q t → now r ≡ now q
-once-apdu-field κs a r q s t = alike _ _
 
 -- ---- objects
 
