@@ -6,6 +6,7 @@ ghost use mathlib.Core.Path.{_≡_};
 ghost use mathlib.Core.Bool.{Bool, true};
 ghost use Prim.Native.Nat.{_+_, _≤_};
 ghost use lib.ListN.{length};
+ghost use Rattle.rules.specs.Reference.{pukForm};
 ghost use Rattle.rules.specs.Command.{thePin, thePuk};
 ghost use Rattle.rules.specs.Pin.{the, made, refsIn, refsOnto};
 ghost use Rattle.pin.specs.Attempt.{formOf, twoValues, triedOf, stepsOf};
@@ -25,12 +26,19 @@ pub enum Tried {
 
 // ---- the form of what is given
 
+// A PUK is any eight bytes.
+fn puk_form(d: &[u8]) -> bool
+    ensures { λ r. ⌜ r ≡ pukForm (now (d .entry)) ⌝ }
+{
+    d.len() == 8
+}
+
 fn has_form(f: Form, d: &[u8]) -> bool
     ensures { λ r. ⌜ r ≡ formOf f (now (d .entry)) ⌝ }
 {
     match f {
         Form::OfPin => return pinform::pin_form(d),
-        Form::OfPuk => return pinform::puk_form(d),
+        Form::OfPuk => return puk_form(d),
     }
 }
 

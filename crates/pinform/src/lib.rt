@@ -1,7 +1,7 @@
-// The forms of a PIN and of a PUK (01, "PIN form").
+// The form of a PIN (01, "PIN form").
 ghost use mathlib.Core.Path.{_≡_};
 ghost use Rattle.rules.specs.Bytes.{all};
-ghost use Rattle.rules.specs.Reference.{digit, lastTwo, pinForm, pukForm};
+ghost use Rattle.rules.specs.Reference.{digit, lastTwo, pinForm};
 
 fn digit(b: u8) -> bool
     ensures { λ r. ⌜ r ≡ digit b ⌝ }
@@ -51,11 +51,4 @@ pub fn pin_form(d: &[u8]) -> bool
         return false;
     }
     last_two(d[6], d[7])
-}
-
-// A PUK is any eight bytes.
-pub fn puk_form(d: &[u8]) -> bool
-    ensures { λ r. ⌜ r ≡ pukForm (now (d .entry)) ⌝ }
-{
-    d.len() == 8
 }

@@ -64,7 +64,6 @@ use Rattle.table.proofs.offset.Reads as table-offset
 use Rattle.table.proofs.slot_named.Reads as table-slot-named
 use Rattle.table.proofs.takes.Reads as table-takes
 use Rattle.pinform.proofs.pin_form.Reads as pinform-pin-form
-use Rattle.pinform.proofs.puk_form.Reads as pinform-puk-form
 use Rattle.reference.proofs.left.Reads as reference-left
 use Rattle.reference.proofs.equals.Reads as reference-equals
 use Rattle.reference.proofs.restore.Reads as reference-restore
@@ -235,9 +234,6 @@ once-table-takes κs a r q s t x y = alike r q (x []) (y [])
 
 once-pinform-pin-form : (κs : _) (a : _) (r q : Bool) (s t : _) → pinform-pin-form.Post κs a r s → pinform-pin-form.Post κs a q t → r ≡ q
 once-pinform-pin-form κs a r q s t = alike r q
-
-once-pinform-puk-form : (κs : _) (a : _) (r q : Bool) (s t : _) → pinform-puk-form.Post κs a r s → pinform-puk-form.Post κs a q t → r ≡ q
-once-pinform-puk-form κs a r q s t = alike r q
 
 -- ---- reference
 

@@ -1,9 +1,9 @@
--- `pinform::puk_form` meets its contract: its test is the definition's.
+-- `attempt::puk_form` meets its contract: its test is the definition's.
 -- Assumes nothing.
 use mathlib.Core.Path.{refl}
 use Rattle.rules.specs.Reference.{pukForm}
-use Rattle.pinform.proofs.puk_form.Statement.{statement}
-use Rattle.pinform.proofs.puk_form.Tie as tie
+use Rattle.pin.proofs.attempt.puk_form.Statement.{statement}
+use Rattle.pin.proofs.attempt.puk_form.Tie as tie
 
 returns : tie.Need-returns
 unfolding pukForm
