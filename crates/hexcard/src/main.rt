@@ -1,5 +1,7 @@
 // The program of 01's "Checked examples": hex lines in, one contact command each, on a fixed card; a line out for each.
-// Lines end at LF; a last line without LF is a line; nothing comes after a final LF. What a line comes to is the crate hexlines.
+// Lines end at LF; a last line without LF is a line; nothing comes after a final LF. What a line comes to is in hexlines.
+mod hexlines;
+
 use libc::STDIN_FILENO;
 use libc::STDOUT_FILENO;
 use rules::Session;

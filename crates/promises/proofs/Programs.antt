@@ -30,7 +30,6 @@ use Rattle.unpacked.proofs.session_in.Reads as unpacked-session-in
 use Rattle.outcomes.proofs.write.Reads as outcomes-write
 use Rattle.verbs.proofs.verb_of.Reads as verbs-verb-of
 use Rattle.placing.proofs.place.Reads as placing-place
-use Rattle.hexlines.proofs.answer.Reads as hexlines-answer
 use Rattle.probelines.proofs.answer.Reads as probelines-answer
 use Rattle.promises.proofs.Once.{alike, by-outcome}
 
@@ -115,10 +114,6 @@ once-placing-place : (κs : _) (a : _) (r q : Bool) (s t : _) → placing-place.
 once-placing-place κs a r q s t x y = by-placed x y
 
 -- ---- what a line comes to
-
-once-hexlines-answer : (κs : _) (a : _) (r q : Said) (s t : _) → hexlines-answer.Post κs a r s → hexlines-answer.Post κs a q t
-    → (r ≡ q) × (now (s .1 .0) ≡ now (t .1 .0)) × (now (s .1 .1 .0) ≡ now (t .1 .1 .0)) × (now (s .1 .1 .1 .0) ≡ now (t .1 .1 .1 .0)) × (now (s .1 .1 .1 .1 .1 .0) ≡ now (t .1 .1 .1 .1 .1 .0))
-once-hexlines-answer κs a r q s t x y = by-seen x y
 
 once-probelines-answer : (κs : _) (a : _) (r q : Said) (s t : _) → probelines-answer.Post κs a r s → probelines-answer.Post κs a q t
     → (r ≡ q) × (now (s .1 .0) ≡ now (t .1 .0)) × (now (s .1 .1 .0) ≡ now (t .1 .1 .0)) × (now (s .1 .1 .1 .0) ≡ now (t .1 .1 .1 .0)) × (now (s .1 .1 .1 .1 .1 .0) ≡ now (t .1 .1 .1 .1 .1 .0))

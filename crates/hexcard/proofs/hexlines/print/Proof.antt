@@ -4,12 +4,12 @@ use mathlib.Core.Path.{_≡_, ap, _∙_}
 use Prim.Native.Nat.{ℕ}
 use denote.Ref.{now}
 use lib.ListN.{take}
-use Rattle.hexlines.specs.HexLines.{shown}
-use Rattle.hexlines.proofs.Laws.{printed-length, print-end}
+use Rattle.hexcard.specs.HexLines.{shown}
+use Rattle.hexcard.proofs.hexlines.Laws.{printed-length, print-end}
 use native.Mathlib.Omega.{arith}
 use borrow.Author.Needs.{needs}
-use Rattle.hexlines.proofs.print.Statement.{statement}
-use Rattle.hexlines.proofs.print.Tie as tie
+use Rattle.hexcard.proofs.hexlines.print.Statement.{statement}
+use Rattle.hexcard.proofs.hexlines.print.Tie as tie
 
 shown-requires : tie.Need-shown-requires
 shown-requires c κs = search needs

@@ -2,10 +2,10 @@
 -- Assumes nothing.
 use mathlib.Core.Path.{ap, _∙_}
 use Rattle.rules.specs.Calls.{Outcome}
-use Rattle.hexlines.specs.HexLines.{closed, turn}
+use Rattle.hexcard.specs.HexLines.{closed, turn}
 use borrow.Author.Needs.{needs}
-use Rattle.hexlines.proofs.turn.Statement.{statement}
-use Rattle.hexlines.proofs.turn.Tie as tie
+use Rattle.hexcard.proofs.hexlines.turn.Statement.{statement}
+use Rattle.hexcard.proofs.hexlines.turn.Tie as tie
 
 call-requires : tie.Need-call-requires
 call-requires c κs = search needs

@@ -7,11 +7,11 @@ use borrow.Author.Tests.{le-ltb, lt-ltb}
 use lib.ListN.{length}
 use Rattle.rules.proofs.Tests.{and-off-left}
 use Rattle.text.specs.Text.{isHex}
-use Rattle.hexlines.specs.HexLines.{isCommand}
+use Rattle.hexcard.specs.HexLines.{isCommand}
 use native.Mathlib.Omega.{arith}
 use borrow.Author.Needs.{needs}
-use Rattle.hexlines.proofs.is_command.Statement.{statement}
-use Rattle.hexlines.proofs.is_command.Tie as tie
+use Rattle.hexcard.proofs.hexlines.is_command.Statement.{statement}
+use Rattle.hexcard.proofs.hexlines.is_command.Tie as tie
 
 returns : tie.Need-returns
 unfolding isCommand

@@ -9,10 +9,10 @@ use Rattle.rules.proofs.Answer.{the-type}
 use Rattle.rules.specs.declared.Answer.{Answer}
 use Rattle.rules.specs.declared.Answer.the-variants.{PoweredOn, Response, JobOpened, Refused}
 use Rattle.rules.specs.Calls.{Outcome, outcome}
-use Rattle.hexlines.specs.HexLines.{closed}
+use Rattle.hexcard.specs.HexLines.{closed}
 use borrow.Author.Needs.{needs}
-use Rattle.hexlines.proofs.close.Statement.{statement}
-use Rattle.hexlines.proofs.close.Tie as tie
+use Rattle.hexcard.proofs.hexlines.close.Statement.{statement}
+use Rattle.hexcard.proofs.hexlines.close.Tie as tie
 
 -- every answer but the third
 other : (a : Answer) (o : Outcome) → OneOf (0 ∷ 1 ∷ 3 ∷ []) (tagOf the-type a) → closed a o ≡ o

@@ -7,10 +7,10 @@ use denote.Ref.{now}
 use Rattle.rules.specs.Calls.{Outcome}
 use Rattle.rules.proofs.Tests.{on, off, passes, fails}
 use Rattle.lines.specs.Seen.{Seen, seen}
-use Rattle.hexlines.specs.HexLines.{printed, told, answered}
+use Rattle.hexcard.specs.HexLines.{printed, told, answered}
 use borrow.Author.Needs.{needs}
-use Rattle.hexlines.proofs.answer.Statement.{statement}
-use Rattle.hexlines.proofs.answer.Tie as tie
+use Rattle.hexcard.proofs.hexlines.answer.Statement.{statement}
+use Rattle.hexcard.proofs.hexlines.answer.Tie as tie
 
 is-command-requires : tie.Need-is-command-requires
 is-command-requires c κs = search needs

@@ -9,7 +9,7 @@ use Prim.Native.Nat.{ℕ, _≤_}
 use lib.ListN.{length}
 use Rattle.rules.specs.Session.{State}
 use Rattle.keeping.specs.Keeping.{keptLine}
-use Rattle.hexlines.specs.HexLines.{answered}
+use Rattle.hexcard.specs.HexLines.{answered}
 
 abbrev pub Holds : Type 0
 Holds = (st : State) (resp s l out : List ℕ) → 526 ≤ length s → answered st resp (keptLine s l) out ≡ answered st resp l out

@@ -14,8 +14,8 @@ ghost use Rattle.rules.specs.Calls.{outcome};
 ghost use Rattle.lines.specs.Seen.{seen};
 ghost use Rattle.text.specs.Text.{bytesOf};
 ghost use Rattle.printing.specs.Printing.{hexOf};
-ghost use Rattle.hexlines.specs.HexLines.{isCommand, closed, answered};
-ghost use Rattle.hexlines.specs.HexLines.{shown as HexLines·shown, turn as HexLines·turn};
+ghost use Rattle.hexcard.specs.HexLines.{isCommand, closed, answered};
+ghost use Rattle.hexcard.specs.HexLines.{shown as HexLines·shown, turn as HexLines·turn};
 
 fn is_command(line: &[u8]) -> bool
     ensures { λ r. ⌜ r ≡ isCommand (now (line .entry)) ⌝ }

@@ -19,8 +19,8 @@ use Rattle.text.proofs.Laws.{length-bytes}
 use Rattle.keeping.specs.Keeping.{keptLine}
 use Rattle.keeping.proofs.Kept.{Kin, itself, long, kept-kin, kin-hex}
 use Rattle.hexcalls.proofs.Laws.{sends-long}
-use Rattle.hexlines.specs.HexLines.{isCommand, closed, turn, told, answered}
-use Rattle.hexlines.specs.Claims.{Holds}
+use Rattle.hexcard.specs.HexLines.{isCommand, closed, turn, told, answered}
+use Rattle.hexcard.specs.Claims.{Holds}
 
 -- two lines, each of 525 characters or more
 module _ (m : ℕ) (st : State) (resp l a out : List ℕ) (hl : 524 < length l) (ha : 524 < length a) (kin : Kin m l a) where
