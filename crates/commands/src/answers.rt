@@ -84,7 +84,7 @@ pub fn select(s: Session, work: &mut [u8], resp: &mut [u8], h: Header, field: &[
     let le = h.le;
     let template = TEMPLATE;
     let sent = sending::send(work, resp, le, &template, &field[..0]);
-    sending::told(s, sent)
+    saying::told(s, sent)
 }
 
 // ---- GET RESPONSE

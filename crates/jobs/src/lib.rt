@@ -4,7 +4,7 @@ use rules::Challenge;
 use rules::Job;
 use rules::Reply;
 use rules::Session;
-use sending::Sent;
+use saying::Sent;
 ghost use mathlib.Core.Path.{_≡_};
 ghost use mathlib.Core.Bool.{true, false};
 ghost use mathlib.Core.List.{List, _++_};
@@ -15,7 +15,7 @@ ghost use Rattle.rules.specs.Session.{state, running, jobOk};
 ghost use Rattle.rules.specs.Held.{send};
 ghost use Rattle.rules.specs.Keys.{resultFits, challenged, finished};
 ghost use Rattle.rules.specs.Calls.{outcome, delivered};
-ghost use Rattle.sending.specs.Replies.{sentReply};
+ghost use Rattle.saying.specs.Replies.{sentReply};
 
 // ---- a template that goes out
 
@@ -49,7 +49,7 @@ fn challenged(s: Session, work: &mut [u8], resp: &mut [u8], le: usize, result: &
     let reply = numbers::be64(result, 8);
     let t = session::with_challenge(s, Challenge::Awaits { reply });
     let sent = give(work, resp, le, 0x81, octets::part(result, 0, 8));
-    sending::told(t, sent)
+    saying::told(t, sent)
 }
 
 // The caller has seen to it that a job is open; the job is closed, whatever its result.
@@ -69,5 +69,5 @@ pub fn finish(s: Session, work: &mut [u8], resp: &mut [u8], failed: bool, result
         return challenged(t, work, resp, le, result);
     }
     let sent = give(work, resp, le, 0x82, result);
-    sending::told(t, sent)
+    saying::told(t, sent)
 }

@@ -66,7 +66,7 @@ fn give_object(
     let mut head = [0u8; 4];
     let n = heads::write_head(&mut head, 0, object_tag(slot), v.len());
     let sent = sending::send(work, resp, le, &head[..n], v);
-    sending::told(s, sent)
+    saying::told(s, sent)
 }
 
 // Tag not in the table: 6A82; reading not allowed now: 6982, whether or not there is an object.

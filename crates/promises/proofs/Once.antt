@@ -32,9 +32,9 @@ use Rattle.rules.specs.Claims.NoSecond.{Shows}
 use Rattle.rules.proofs.NoSecond.{no-second}
 use Rattle.rules.proofs.Cards.{fixed-well}
 use Rattle.rules.proofs.Lists.{length-zeros}
-use Rattle.sending.specs.declared.Sent.{Sent}
-use Rattle.sending.specs.declared.Sent.the-variants.{All, First}
-use Rattle.sending.specs.Replies.{sentReply}
+use Rattle.saying.specs.declared.Sent.{Sent}
+use Rattle.saying.specs.declared.Sent.the-variants.{All, First}
+use Rattle.saying.specs.Replies.{sentReply}
 use Rattle.octets.proofs.same.Reads as octets-same
 use Rattle.octets.proofs.part.Reads as octets-part
 use Rattle.octets.proofs.put.Reads as octets-put
@@ -78,8 +78,8 @@ use Rattle.held.proofs.based.Reads as held-based
 use Rattle.held.proofs.hold_piece.Reads as held-hold-piece
 use Rattle.saying.proofs.say.Reads as saying-say
 use Rattle.saying.proofs.drop_say.Reads as saying-drop-say
+use Rattle.saying.proofs.told.Reads as saying-told
 use Rattle.sending.proofs.send.Reads as sending-send
-use Rattle.sending.proofs.told.Reads as sending-told
 use Rattle.sending.proofs.fetch.Reads as sending-fetch
 use Rattle.apdu.proofs.check.Reads as apdu-check
 use Rattle.objects.proofs.get_data.Reads as objects-get-data
@@ -280,13 +280,18 @@ once-held-based κs a r q s t x y = by-state (x []) (y [])
 once-held-hold-piece : (κs : _) (a : _) (r q : Session) (s t : _) → held-hold-piece.Post κs a r s → held-hold-piece.Post κs a q t → (r ≡ q) × (now (s .1 .0) ≡ now (t .1 .0))
 once-held-hold-piece κs a r q s t x y = by-state (x []) (y [])
 
--- ---- sending
+-- ---- saying
 
 once-saying-say : (κs : _) (a : _) (r q : Reply) (s t : _) → saying-say.Post κs a r s → saying-say.Post κs a q t → (r ≡ q) × (now (s .1 .0) ≡ now (t .1 .0))
 once-saying-say κs a r q s t x y = let e = by-outcome (x [] []) (y [] []) in (e .0, e .3)
 
 once-saying-drop-say : (κs : _) (a : _) (r q : Reply) (s t : _) → saying-drop-say.Post κs a r s → saying-drop-say.Post κs a q t → (r ≡ q) × (now (s .1 .0) ≡ now (t .1 .0)) × (now (s .1 .1 .0) ≡ now (t .1 .1 .0))
 once-saying-drop-say κs a r q s t x y = let e = by-outcome (x []) (y []) in (e .0, e .2, e .3)
+
+once-saying-told : (κs : _) (a : _) (r q : Reply) (s t : _) → saying-told.Post κs a r s → saying-told.Post κs a q t → r ≡ q
+once-saying-told κs a r q s t = alike r q
+
+-- ---- sending
 
 -- what went out shows in what the host is told of it
 same-sent : (x y : Sent) → sentReply anySession x ≡ sentReply anySession y → x ≡ y
@@ -313,9 +318,6 @@ same-sent (First n w f) (First k v g) e =
 
 once-sending-send : (κs : _) (a : _) (r q : Sent) (s t : _) → sending-send.Post κs a r s → sending-send.Post κs a q t → (r ≡ q) × (now (s .0) ≡ now (t .0)) × (now (s .1 .0) ≡ now (t .1 .0))
 once-sending-send κs a r q s t x y = let e = by-outcome (x anySession []) (y anySession []) in (same-sent r q (e .0), e .2, e .3)
-
-once-sending-told : (κs : _) (a : _) (r q : Reply) (s t : _) → sending-told.Post κs a r s → sending-told.Post κs a q t → r ≡ q
-once-sending-told κs a r q s t = alike r q
 
 once-sending-fetch : (κs : _) (a : _) (r q : Reply) (s t : _) → sending-fetch.Post κs a r s → sending-fetch.Post κs a q t → (r ≡ q) × (now (s .1 .0) ≡ now (t .1 .0)) × (now (s .1 .1 .0) ≡ now (t .1 .1 .0))
 once-sending-fetch κs a r q s t x y = let e = by-outcome (x []) (y []) in (e .0, e .2, e .3)

@@ -1,11 +1,12 @@
 // Data answers as they go out: those that fit Le, and those that do not, of which the whole is held
 // (01, "From bytes to a command", "GET RESPONSE"). A function that is not lent a buffer promises for every buffer,
-// and `send`, which is not given the session, for every session: the bytes go out first, `told` says what the host learns.
+// and `send`, which is not given the session, for every session: the bytes go out first, `saying::told` says what the host learns.
 use rules::Answer;
 use rules::Chain;
 use rules::Reply;
 use rules::Rest;
 use rules::Session;
+use saying::Sent;
 ghost use mathlib.Core.Path.{_≡_};
 ghost use mathlib.Core.List.{List, _++_};
 ghost use Prim.Native.Nat.{ℕ, _+_, _-_, _≤_, _<_};
@@ -16,19 +17,7 @@ ghost use Rattle.rules.specs.Session.{state, heldLength};
 ghost use Rattle.rules.specs.Command.{responds, tells};
 ghost use Rattle.rules.specs.Held.{dropped, leftWord, send, fetch};
 ghost use Rattle.rules.specs.Calls.{outcome, delivered};
-ghost use Rattle.sending.specs.Replies.{sentReply};
-
-// What went out: all of an answer, or its first bytes; each with the length of the response.
-pub enum Sent {
-    All {
-        len: usize,
-    },
-    First {
-        len: usize,
-        whole: usize,
-        fetched: usize,
-    },
-}
+ghost use Rattle.saying.specs.Replies.{sentReply};
 
 // 61 and the number of bytes left, 00 if 256 or more.
 fn left_word(n: usize) -> u16
@@ -92,25 +81,6 @@ pub fn send(work: &mut [u8], resp: &mut [u8], le: usize, head: &[u8], body: &[u8
         len: le + 2,
         whole: n,
         fetched: le,
-    }
-}
-
-pub fn told(s: Session, x: Sent) -> Reply
-    ensures { λ r. ⌜ r ≡ sentReply s x ⌝ }
-{
-    match x {
-        Sent::All { len } => Reply {
-            answer: Answer::Response { len },
-            session: s,
-        },
-        Sent::First {
-            len,
-            whole,
-            fetched,
-        } => Reply {
-            answer: Answer::Response { len },
-            session: session::holding(s, Chain::Shut, Rest::Left { whole, fetched }),
-        },
     }
 }
 

@@ -10,8 +10,8 @@ use Rattle.rules.specs.declared.Rest.the-variants.{Left}
 use Rattle.rules.specs.declared.Session.{Session}
 use Rattle.rules.specs.Session.{holding}
 use Rattle.rules.specs.Calls.{reply}
-use Rattle.sending.specs.declared.Sent.{Sent}
-use Rattle.sending.specs.declared.Sent.the-variants.{All, First}
+use Rattle.saying.specs.declared.Sent.{Sent}
+use Rattle.saying.specs.declared.Sent.the-variants.{All, First}
 
 -- all of it, or its first bytes, while the whole is held
 abbrev pub sentReply : Session → Sent → Reply

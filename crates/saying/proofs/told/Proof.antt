@@ -4,10 +4,10 @@ use mathlib.Core.Path.{ap, sym, _∙_}
 use Rattle.rules.specs.declared.Answer.the-variants.{Response}
 use Rattle.rules.specs.declared.Session.{Session}
 use Rattle.rules.specs.Calls.{reply}
-use Rattle.sending.specs.Replies.{sentReply}
+use Rattle.saying.specs.Replies.{sentReply}
 use borrow.Author.Needs.{needs}
-use Rattle.sending.proofs.told.Statement.{statement}
-use Rattle.sending.proofs.told.Tie as tie
+use Rattle.saying.proofs.told.Statement.{statement}
+use Rattle.saying.proofs.told.Tie as tie
 
 enum-known-x : tie.Need-enum-known-x
 enum-known-x c = search needs
