@@ -5,10 +5,11 @@
 --   hex n x              the number x as n bytes
 --   Card                 a card, and storeOf its store
 --   fixed                the store of the fixed card of 01's program
+--   Test                 a test of an outcome, and meets what it asks
 --   Line, k ⇒ t          a call, and the test that its outcome must pass
 --   Row                  a row of the table, and passes what it claims
 --   plays c ls           the lines ls on the card c, powered on by contact
---   sw · bytes · sized · job · refused    tests of an outcome
+--   sw · bytes · sized · job · refused    tests of the answer
 --   storeIs workIs       tests of the store and of the work area after a call
 --   table                the table: each row must pass
 --   Holds                the claim
@@ -75,14 +76,27 @@ triedCard = issued 0x4F50430001000000_0302313233343536FFFF_03033132333435363738_
 abbrev pub patientCard : Card
 patientCard = issued 0x4F50430001000000_0F0F313233343536FFFF_03033132333435363738_00000000
 
+-- ---- tests: of the answer and the response buffer; of the store and of the work area after the call; two at once
+
+pub data Test : Type 0 where
+  gives : (Answer → List ℕ → Bool) → Test
+  storeIs workIs : List ℕ → Test
+  both : Test → Test → Test
+
+unfoldable pub meets : Test → Outcome → Bool
+meets (gives t) o = t (o .reply .answer) (o .resp)
+meets (storeIs s) o = sameBytes s (o .store)
+meets (workIs w) o = sameBytes w (o .work)
+meets (both t u) o = meets t o && meets u o
+
 -- ---- lines
 
 pub data Line : Type 0 where
-  _⇒_ : Call → (Outcome → Bool) → Line
+  _⇒_ : Call → Test → Line
 
 unfoldable pub follows : State → List Line → Bool
 follows st [] = true
-follows st ((k ⇒ t) ∷ ls) = let r = call st k in let b = follows (leaves r) ls in t (r .outcome) && b
+follows st ((k ⇒ t) ∷ ls) = let r = call st k in let b = follows (leaves r) ls in meets t (r .outcome) && b
 
 -- ---- rows: a test; lines on a card that is powered on by contact, or without; lines from any work area and session
 
@@ -101,7 +115,7 @@ passes (plays c ls) = follows (powered c false) ls
 passes (playsAir c ls) = follows (powered c true) ls
 passes (from c w ss ls) = follows (state (storeOf c) w ss) ls
 
--- ---- tests
+-- ---- tests of the answer
 
 abbrev pub respondsWith : (List ℕ → Bool) → Answer → List ℕ → Bool
 respondsWith t PoweredOn b = false
@@ -115,37 +129,28 @@ opensWith k a d (Response n) b = false
 opensWith k a d (JobOpened key alg n) b = eqb k key && eqb a alg && sameBytes d (take n b)
 opensWith k a d (Refused r) b = false
 
-abbrev pub refusesWith : ℕ → Answer → Bool
-refusesWith n PoweredOn = false
-refusesWith n (Response m) = false
-refusesWith n (JobOpened key alg m) = false
-refusesWith n (Refused r) = eqb n (refusalNumber r)
+abbrev pub refusesWith : ℕ → Answer → List ℕ → Bool
+refusesWith n PoweredOn b = false
+refusesWith n (Response m) b = false
+refusesWith n (JobOpened key alg m) b = false
+refusesWith n (Refused r) b = eqb n (refusalNumber r)
 
 -- just these bytes; that many data bytes and this status word; this status word alone
-unfoldable pub bytes : List ℕ → Outcome → Bool
-bytes b o = respondsWith (sameBytes b) (o .reply .answer) (o .resp)
+unfoldable pub bytes : List ℕ → Test
+bytes b = gives (respondsWith (sameBytes b))
 
-unfoldable pub sized : ℕ → ℕ → Outcome → Bool
-sized n x o = respondsWith (λ l. eqb (length l) (n + 2) && sameBytes (drop n l) (word x)) (o .reply .answer) (o .resp)
+unfoldable pub sized : ℕ → ℕ → Test
+sized n x = gives (respondsWith (λ l. eqb (length l) (n + 2) && sameBytes (drop n l) (word x)))
 
-unfoldable pub sw : ℕ → Outcome → Bool
-sw x o = bytes (word x) o
+unfoldable pub sw : ℕ → Test
+sw x = bytes (word x)
 
 -- a job with this key, this algorithm and these data
-unfoldable pub job : ℕ → ℕ → List ℕ → Outcome → Bool
-job k a d o = opensWith k a d (o .reply .answer) (o .resp)
+unfoldable pub job : ℕ → ℕ → List ℕ → Test
+job k a d = gives (opensWith k a d)
 
-unfoldable pub refused : ℕ → Outcome → Bool
-refused n o = refusesWith n (o .reply .answer)
-
-unfoldable pub storeIs : List ℕ → Outcome → Bool
-storeIs s o = sameBytes s (o .store)
-
-unfoldable pub workIs : List ℕ → Outcome → Bool
-workIs w o = sameBytes w (o .work)
-
-unfoldable pub both : (Outcome → Bool) → (Outcome → Bool) → Outcome → Bool
-both t u o = t o && u o
+unfoldable pub refused : ℕ → Test
+refused n = gives (refusesWith n)
 
 -- ---- calls: each is lent a response buffer of 258 bytes
 
@@ -174,15 +179,18 @@ empty = tell 4 0x00200080
 abbrev pub select : Call
 select = tell 14 0x00A4040009A00000030800001000
 
-abbrev pub selected : Outcome → Bool
+abbrev pub selected : Test
 selected = bytes (hex 26 0x61164F0BA00000030800001000010079074F05A000000308_9000)
 
--- GET DATA of the capability container and of the printed information, and GET RESPONSE
+-- GET DATA of the capability container, of the printed information and of the fingerprints, and GET RESPONSE
 abbrev pub container : Call
 container = tell 11 0x00CB3FFF055C035FC10700
 
 abbrev pub printed : Call
 printed = tell 11 0x00CB3FFF055C035FC10900
+
+abbrev pub fingerprints : Call
+fingerprints = tell 11 0x00CB3FFF055C035FC10300
 
 abbrev pub more : Call
 more = tell 5 0x00C0000000
@@ -197,7 +205,7 @@ makes = done 16 0x0102030405060708_1112131415161718
 abbrev pub reply : Call
 reply = tell 17 0x0087009B0C_7C0A82081112131415161718
 
-abbrev pub challenge : Outcome → Bool
+abbrev pub challenge : Test
 challenge = bytes (hex 14 0x7C0A81080102030405060708_9000)
 
 unfoldable pub asAdmin : List Line → List Line
@@ -253,15 +261,15 @@ wrongCards =
     ∷ container ⇒ bytes (hex 6 0x530208099000) ∷ []))
     ∷ []
 
--- ---- rows that the three errors would fail: the object looked for before the access condition; a try counted, or a comparison made, for a
--- PIN without PIN form; the PIN status restored after RESET RETRY COUNTER (or lost by it)
+-- ---- rows that the three errors would fail: the object looked for before the access condition (the starred printed information has it too); a try
+-- counted, or a comparison made, for a PIN without PIN form; the PIN status restored after RESET RETRY COUNTER (or lost by it)
 
 abbrev pub resets : Call
 resets = tell 21 0x002C008010_3132333435363738_313233343536FFFF
 
 abbrev pub harmlessErrors : List Row
 harmlessErrors =
-    plays fixedCard (printed ⇒ sw 0x6982 ∷ right ⇒ sw 0x9000 ∷ printed ⇒ sw 0x6A82 ∷ [])
+    plays fixedCard (fingerprints ⇒ sw 0x6982 ∷ right ⇒ sw 0x9000 ∷ fingerprints ⇒ sw 0x6A82 ∷ [])
     ∷ plays fixedCard (five ⇒ both (sw 0x6A80) (storeIs fixed) ∷ empty ⇒ sw 0x63C3 ∷ [])
     ∷ plays fixedCard (resets ⇒ sw 0x9000 ∷ empty ⇒ sw 0x63C3 ∷ right ⇒ sw 0x9000 ∷ resets ⇒ sw 0x9000 ∷ empty ⇒ sw 0x9000 ∷ [])
     ∷ []
@@ -308,7 +316,6 @@ reading =
     ∷ tell 11 0x00CB3FFF06_5C81035FC102 ⇒ sw 0x6A80
     ∷ tell 10 0x00CB3FFF05_5C035FC104 ⇒ sw 0x6A82
     ∷ tell 10 0x00CB3FFF05_5C0300007E ⇒ sw 0x6A82
-    ∷ tell 8 0x00CB3FFF03_5C017E ⇒ sw 0x6A82
     ∷ tell 6 0x00C000000100 ⇒ sw 0x6700 ∷ [])
     ∷ playsAir (filled fixedCard 0 (hex 1 0x55)) (container ⇒ sw 0x6982
     ∷ tell 10 0x00CB3FFF05_5C035FC104 ⇒ sw 0x6A82
@@ -402,8 +409,8 @@ putting =
     ∷ tell 13 0x00DB3FFF08_5C035FC107530155 ⇒ both (sw 0x9000) (storeIs (putObject fixed 0 (hex 1 0x55)))
     ∷ container ⇒ bytes (hex 5 0x530155_9000)
     ∷ tell 12 0x00DB3FFF07_5C035FC1075300 ⇒ both (sw 0x9000) (storeIs fixed)
-    ∷ container ⇒ sw 0x6A82
-    ∷ sends (replicate 258 0xBB) (hex 7 0x00DB3FFF437E41 ++ replicate 65 0x5A) ⇒ both (sw 0x6A84) (storeIs fixed)
+    ∷ container ⇒ sw 0x6A82 ∷ []))
+    ∷ plays fixedCard (asAdmin (sends (replicate 258 0xBB) (hex 7 0x00DB3FFF437E41 ++ replicate 65 0x5A) ⇒ both (sw 0x6A84) (storeIs fixed)
     ∷ sends (replicate 258 0xBB) (hex 7 0x00DB3FFF427E40 ++ replicate 64 0x5A) ⇒ sw 0x9000
     ∷ tell 9 0x00CB3FFF03_5C017E_00 ⇒ bytes (hex 2 0x7E40 ++ (replicate 64 0x5A ++ hex 2 0x9000)) ∷ []))
     ∷ []
