@@ -62,6 +62,7 @@ use Rattle.permit.proofs.job_result.Reads as permit-job-result
 use Rattle.table.proofs.capacity.Reads as table-capacity
 use Rattle.table.proofs.offset.Reads as table-offset
 use Rattle.table.proofs.slot_named.Reads as table-slot-named
+use Rattle.table.proofs.takes.Reads as table-takes
 use Rattle.pinform.proofs.pin_form.Reads as pinform-pin-form
 use Rattle.reference.proofs.left.Reads as reference-left
 use Rattle.reference.proofs.equals.Reads as reference-equals
@@ -225,6 +226,9 @@ once-table-offset κs a r q s t = alike r q
 
 once-table-slot-named : (κs : _) (a : _) (r q : ℕ) (s t : _) → table-slot-named.Post κs a r s → table-slot-named.Post κs a q t → r ≡ q
 once-table-slot-named κs a r q s t = alike r q
+
+once-table-takes : (κs : _) (a : _) (r q : Bool) (s t : _) → table-takes.Post κs a r s → table-takes.Post κs a q t → r ≡ q
+once-table-takes κs a r q s t x y = alike r q (x []) (y [])
 
 -- ---- pinform
 

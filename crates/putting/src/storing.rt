@@ -5,12 +5,11 @@ use rules::Put;
 use rules::Session;
 ghost use mathlib.Core.Path.{_≡_};
 ghost use mathlib.Core.List.{List};
-ghost use Prim.Native.Nat.{ℕ, _<_};
+ghost use Prim.Native.Nat.{ℕ};
 ghost use lib.ListN.{length};
 ghost use Rattle.rules.specs.declared.Answer.the-variants.{Response};
 ghost use Rattle.rules.specs.declared.Session.{Session};
 ghost use Rattle.rules.specs.Bytes.{splice, word};
-ghost use Rattle.rules.specs.Store.{takes};
 ghost use Rattle.rules.specs.Session.{state};
 ghost use Rattle.rules.specs.Objects.{putIn, putForm, putWhole};
 ghost use Rattle.rules.specs.Calls.{outcome, reply, delivered};
@@ -49,14 +48,6 @@ fn put_form(d: &[u8]) -> Put
 
 // ---- the whole
 
-// The slot can take an object of n bytes.
-fn takes(slot: usize, n: usize) -> bool
-    requires { ⌜ slot < 12 ⌝ }
-    ensures { λ r. ⌜ ((s : List ℕ) → r ≡ takes s slot n) ⌝ }
-{
-    n <= table::capacity(slot)
-}
-
 // Other form 6A80; tag not in the table 6A82; over capacity 6A84; else the slot takes the value.
 pub fn put_whole(store: &mut [u8], d: &[u8]) -> u16
     requires { ⌜ length (now store) ≡ 33400 ⌝ }
@@ -68,7 +59,7 @@ pub fn put_whole(store: &mut [u8], d: &[u8]) -> u16
     if 12 <= slot {
         return 0x6A82;
     }
-    if !takes(slot, len) {
+    if !table::takes(slot, len) {
         return 0x6A84;
     }
     store::put_object(store, slot, octets::part(d, from, len));

@@ -1,7 +1,8 @@
 // The table of 01: each slot's capacity, offset and tag. Its read conditions are in objects, which alone asks for them.
 ghost use mathlib.Core.Path.{_≡_};
-ghost use Prim.Native.Nat.{_<_};
-ghost use Rattle.rules.specs.Store.{capacity, offset, slotNamed};
+ghost use mathlib.Core.List.{List};
+ghost use Prim.Native.Nat.{ℕ, _<_};
+ghost use Rattle.rules.specs.Store.{capacity, offset, slotNamed, takes};
 
 // ---- columns, each a `match`: a constant array would be built anew at every look-up
 
@@ -43,6 +44,14 @@ pub fn offset(slot: usize) -> usize
         10 => 32820,
         _ => 33334,
     }
+}
+
+// The slot can take an object of n bytes.
+pub fn takes(slot: usize, n: usize) -> bool
+    requires { ⌜ slot < 12 ⌝ }
+    ensures { λ r. ⌜ ((s : List ℕ) → r ≡ takes s slot n) ⌝ }
+{
+    n <= capacity(slot)
 }
 
 // The slot with that tag of three bytes; 12 where there is none.

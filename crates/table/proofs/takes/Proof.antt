@@ -5,8 +5,8 @@ use Prim.Native.Nat.{ℕ}
 use lib.Dec.{leb}
 use Rattle.rules.specs.Store.{capacity, takes}
 use borrow.Author.Needs.{needs}
-use Rattle.putting.proofs.storing.takes.Statement.{statement}
-use Rattle.putting.proofs.storing.takes.Tie as tie
+use Rattle.table.proofs.takes.Statement.{statement}
+use Rattle.table.proofs.takes.Tie as tie
 
 capacity-requires : tie.Need-capacity-requires
 capacity-requires c κs = search needs
