@@ -111,9 +111,16 @@ fn answer(d: Desk, store: &mut [u8], work: &mut [u8], resp: &mut [u8], line: &[u
     call(d, store, work, resp, line)
 }
 
-fn byte(d: Desk, store: &mut [u8], work: &mut [u8], resp: &mut [u8], line: &mut [u8], b: u8) -> Desk
-    requires { ⌜ (d .store ≤ length (now store)) × (d .work ≤ length (now work)) × (d .resp ≤ length (now resp)) × (length (now resp) ≤ 1024) × (1 ≤ length (now line)) × (d .n ≤ length (now line)) ⌝ }
-    ensures { λ r. ⌜ (r .store ≤ length (now (store .entry))) × (r .work ≤ length (now (work .entry))) × (r .resp ≤ length (now (resp .entry))) × (r .n ≤ length (now (line .entry))) ⌝ }
+fn byte(
+    d: Desk,
+    store: &mut [u8; 40000],
+    work: &mut [u8; 20000],
+    resp: &mut [u8; 1024],
+    line: &mut [u8],
+    b: u8,
+) -> Desk
+    requires { ⌜ (d .store ≤ 40000) × (d .work ≤ 20000) × (d .resp ≤ 1024) × (1 ≤ length (now line)) × (d .n ≤ length (now line)) ⌝ }
+    ensures { λ r. ⌜ (r .store ≤ 40000) × (r .work ≤ 20000) × (r .resp ≤ 1024) × (r .n ≤ length (now (line .entry))) ⌝ }
 {
     let n = d.n;
     if b == 10 {
@@ -126,14 +133,14 @@ fn byte(d: Desk, store: &mut [u8], work: &mut [u8], resp: &mut [u8], line: &mut 
 
 fn bytes(
     d: Desk,
-    store: &mut [u8],
-    work: &mut [u8],
-    resp: &mut [u8],
+    store: &mut [u8; 40000],
+    work: &mut [u8; 20000],
+    resp: &mut [u8; 1024],
     line: &mut [u8],
     given: &[u8],
 ) -> Desk
-    requires { ⌜ (d .store ≤ length (now store)) × (d .work ≤ length (now work)) × (d .resp ≤ length (now resp)) × (length (now resp) ≤ 1024) × (1 ≤ length (now line)) × (d .n ≤ length (now line)) ⌝ }
-    ensures { λ r. ⌜ (r .store ≤ length (now (store .entry))) × (r .work ≤ length (now (work .entry))) × (r .resp ≤ length (now (resp .entry))) × (r .n ≤ length (now (line .entry))) ⌝ }
+    requires { ⌜ (d .store ≤ 40000) × (d .work ≤ 20000) × (d .resp ≤ 1024) × (1 ≤ length (now line)) × (d .n ≤ length (now line)) ⌝ }
+    ensures { λ r. ⌜ (r .store ≤ 40000) × (r .work ≤ 20000) × (r .resp ≤ 1024) × (r .n ≤ length (now (line .entry))) ⌝ }
 {
     let mut desk = d;
     let mut i = 0;
@@ -144,9 +151,15 @@ fn bytes(
     desk
 }
 
-fn read(d: Desk, store: &mut [u8], work: &mut [u8], resp: &mut [u8], line: &mut [u8]) -> Desk
-    requires { ⌜ (d .store ≤ length (now store)) × (d .work ≤ length (now work)) × (d .resp ≤ length (now resp)) × (length (now resp) ≤ 1024) × (1 ≤ length (now line)) × (d .n ≤ length (now line)) ⌝ }
-    ensures { λ r. ⌜ (r .store ≤ length (now (store .entry))) × (r .work ≤ length (now (work .entry))) × (r .resp ≤ length (now (resp .entry))) × (r .n ≤ length (now (line .entry))) ⌝ }
+fn read(
+    d: Desk,
+    store: &mut [u8; 40000],
+    work: &mut [u8; 20000],
+    resp: &mut [u8; 1024],
+    line: &mut [u8],
+) -> Desk
+    requires { ⌜ (d .store ≤ 40000) × (d .work ≤ 20000) × (d .resp ≤ 1024) × (1 ≤ length (now line)) × (d .n ≤ length (now line)) ⌝ }
+    ensures { λ r. ⌜ (r .store ≤ 40000) × (r .work ≤ 20000) × (r .resp ≤ 1024) × (r .n ≤ length (now (line .entry))) ⌝ }
 {
     let mut given = io::buffer();
     let got = libc::read(STDIN_FILENO, &mut given);
@@ -160,8 +173,14 @@ fn read(d: Desk, store: &mut [u8], work: &mut [u8], resp: &mut [u8], line: &mut 
 }
 
 // A proved loop has to end, and nothing says that the input does: so its turns are counted, from a number that no run uses up.
-fn run(d: Desk, store: &mut [u8], work: &mut [u8], resp: &mut [u8], line: &mut [u8])
-    requires { ⌜ (d .store ≤ length (now store)) × (d .work ≤ length (now work)) × (d .resp ≤ length (now resp)) × (length (now resp) ≤ 1024) × (1 ≤ length (now line)) × (d .n ≤ length (now line)) ⌝ }
+fn run(
+    d: Desk,
+    store: &mut [u8; 40000],
+    work: &mut [u8; 20000],
+    resp: &mut [u8; 1024],
+    line: &mut [u8],
+)
+    requires { ⌜ (d .store ≤ 40000) × (d .work ≤ 20000) × (d .resp ≤ 1024) × (1 ≤ length (now line)) × (d .n ≤ length (now line)) ⌝ }
 {
     let mut desk = d;
     let mut turns = u64::MAX;

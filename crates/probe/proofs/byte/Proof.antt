@@ -20,30 +20,21 @@ answer-requires c κs = search needs
 same-length : tie.Need-same-length
 same-length c = search needs
 
-same-length-2 : tie.Need-same-length-2
-same-length-2 c = search needs
-
-same-length-3 : tie.Need-same-length-3
-same-length-3 c = search needs
-
-same-length-4 : tie.Need-same-length-4
-same-length-4 c = search needs
-
 returns : tie.Need-returns
 returns c = search needs
 
 keep-requires : tie.Need-keep-requires
 keep-requires c κs = search needs
 
-same-length-5 : tie.Need-same-length-5
-same-length-5 c = search needs
+same-length-2 : tie.Need-same-length-2
+same-length-2 c = search needs
 
 returns-2 : tie.Need-returns-2
 returns-2 c =
-    let i = c .before .before .before .before .before .before .before .before .before in
+    let i = c .before .before .before .before .before .before in
     let a = i .args in
     let k = c .before .before .keep in
-    (i .pre .0, i .pre .1, i .pre .2, keep-fits (now (a .line)) (a .d .n) (a .b) (k .result) (k .last .0) (i .pre .5) (k .ensures))
+    (i .pre .0, i .pre .1, i .pre .2, keep-fits (now (a .line)) (a .d .n) (a .b) (k .result) (k .last .0) (i .pre .4) (k .ensures))
 
 pub byte-spec : {M : Type 1} → statement M
 byte-spec =
@@ -53,10 +44,7 @@ byte-spec =
     slice-aggregate-answer
     answer-requires
     same-length
-    same-length-2
-    same-length-3
-    same-length-4
     returns
     keep-requires
-    same-length-5
+    same-length-2
     returns-2)

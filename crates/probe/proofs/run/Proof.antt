@@ -1,4 +1,4 @@
--- The loop's invariant: the buffers keep their lengths, and what is lent of them and kept of the line fits.
+-- The loop's invariant: the line's buffer keeps its length, and what is lent of the buffers and kept of the line fits.
 -- Assumes nothing.
 use mathlib.Core.Path.{_≡_}
 use Prim.Native.Nat.{_≤_}
@@ -8,7 +8,7 @@ use Rattle.probe.proofs.run.Statement.{statement}
 use Rattle.probe.proofs.run.Tie as tie
 
 abbrev Inv-loop : tie.InvT-loop
-Inv-loop store₀ work₀ resp₀ line₀ desk₀ turns₀ store work resp line desk turns = (length store ≡ length store₀) × (length work ≡ length work₀) × (length resp ≡ length resp₀) × (length line ≡ length line₀) × (desk .store ≤ length store) × (desk .work ≤ length work) × (desk .resp ≤ length resp) × (desk .n ≤ length line)
+Inv-loop store₀ work₀ resp₀ line₀ desk₀ turns₀ store work resp line desk turns = (length line ≡ length line₀) × (desk .store ≤ 40000) × (desk .work ≤ 20000) × (desk .resp ≤ 1024) × (desk .n ≤ length line)
 
 abbrev μ-loop : tie.MeasureT-loop
 μ-loop store₀ work₀ resp₀ line₀ desk₀ turns₀ store work resp line desk turns = turns
@@ -40,29 +40,11 @@ answer-requires c κs = omega arith
 same-length : tie.Need-same-length Inv-loop μ-loop
 same-length c = omega arith
 
-same-length-2 : tie.Need-same-length-2 Inv-loop μ-loop
-same-length-2 c = omega arith
-
-same-length-3 : tie.Need-same-length-3 Inv-loop μ-loop
-same-length-3 c = omega arith
-
-same-length-4 : tie.Need-same-length-4 Inv-loop μ-loop
-same-length-4 c = omega arith
-
 returns : tie.Need-returns Inv-loop μ-loop
 returns c = omega arith
 
-same-length-5 : tie.Need-same-length-5 Inv-loop μ-loop
-same-length-5 c = omega arith
-
-same-length-6 : tie.Need-same-length-6 Inv-loop μ-loop
-same-length-6 c = omega arith
-
-same-length-7 : tie.Need-same-length-7 Inv-loop μ-loop
-same-length-7 c = omega arith
-
-same-length-8 : tie.Need-same-length-8 Inv-loop μ-loop
-same-length-8 c = omega arith
+same-length-2 : tie.Need-same-length-2 Inv-loop μ-loop
+same-length-2 c = omega arith
 
 returns-2 : tie.Need-returns-2 Inv-loop μ-loop
 returns-2 c = omega arith
@@ -82,12 +64,6 @@ run-spec =
     slice-aggregate-answer
     answer-requires
     same-length
-    same-length-2
-    same-length-3
-    same-length-4
     returns
-    same-length-5
-    same-length-6
-    same-length-7
-    same-length-8
+    same-length-2
     returns-2)
