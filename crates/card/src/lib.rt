@@ -52,7 +52,7 @@ fn field(c: &[u8], h: Header) -> &[u8]
     if lc == 0 {
         return &c[..0];
     }
-    octets::part(c, 5, lc)
+    parts::part(c, 5, lc)
 }
 
 // Every command drops a held challenge; 87 may compare it first.

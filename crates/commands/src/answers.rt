@@ -62,10 +62,10 @@ fn ours(d: &[u8]) -> bool
     ensures { λ r. ⌜ r ≡ (sameBytes (now (d .entry)) aid || sameBytes (now (d .entry)) (take 9 aid)) ⌝ }
 {
     let whole = AID;
-    if octets::same(d, &whole) {
+    if parts::same(d, &whole) {
         return true;
     }
-    octets::same(d, &whole[..9])
+    parts::same(d, &whole[..9])
 }
 
 pub fn select(s: Session, work: &mut [u8], resp: &mut [u8], h: Header, field: &[u8]) -> Reply

@@ -48,7 +48,7 @@ fn challenged(s: Session, work: &mut [u8], resp: &mut [u8], le: usize, result: &
 {
     let reply = numbers::be64(result, 8);
     let t = session::with_challenge(s, Challenge::Awaits { reply });
-    let sent = give(work, resp, le, 0x81, octets::part(result, 0, 8));
+    let sent = give(work, resp, le, 0x81, parts::part(result, 0, 8));
     saying::told(t, sent)
 }
 

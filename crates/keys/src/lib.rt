@@ -35,7 +35,7 @@ fn last_of_chain(
 {
     let total = n + field.len();
     octets::put(work, n, field);
-    let done = template::whole(ch, resp, h, octets::part(work, 0, total));
+    let done = template::whole(ch, resp, h, parts::part(work, 0, total));
     octets::zero(work, 0, total);
     template::told(s, done)
 }

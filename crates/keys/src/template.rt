@@ -84,7 +84,7 @@ fn auth_admin(ch: Challenge, resp: &mut [u8], le: usize, t: &[u8]) -> Auth
     ensures { λ r. ⌜ ((s : Session) (m w : List ℕ) → outcome (authReply s r) m w (now (resp .exit)) ≡ (delivered (now (resp .entry)) (authAdmin ch (state m w s) le (now (t .entry)) (adminForm (now (t .entry))))) .outcome) ⌝ }
 {
     match forms::admin_form(t) {
-        Admin::GiveChallenge => return opened(resp, 0x9B, 0x00, le, octets::part(t, 0, 0)),
+        Admin::GiveChallenge => return opened(resp, 0x9B, 0x00, le, parts::part(t, 0, 0)),
         Admin::Reply { from } => return replied(ch, resp, numbers::be64(t, from)),
         Admin::NoForm => return says(resp, 0x6A80),
     }
@@ -97,7 +97,7 @@ fn auth_key(resp: &mut [u8], h: Header, t: &[u8]) -> Auth
     let Found::Value { from, len } = forms::key_form(h.p2, h.p1, t) else {
         return says(resp, 0x6A80);
     };
-    opened(resp, h.p2, h.p1, h.le, octets::part(t, from, len))
+    opened(resp, h.p2, h.p1, h.le, parts::part(t, from, len))
 }
 
 fn auth_in(ch: Challenge, resp: &mut [u8], h: Header, t: &[u8]) -> Auth
@@ -118,7 +118,7 @@ pub fn whole(ch: Challenge, resp: &mut [u8], h: Header, d: &[u8]) -> Auth
     let Found::Value { from, len } = reader::only(d, 0x7C) else {
         return says(resp, 0x6A80);
     };
-    auth_in(ch, resp, h, octets::part(d, from, len))
+    auth_in(ch, resp, h, parts::part(d, from, len))
 }
 
 fn with_admin(s: Session, known: bool) -> Session

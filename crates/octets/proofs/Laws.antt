@@ -1,4 +1,4 @@
--- Laws: what the writers and the comparison do to a row of bytes.
+-- Laws: what the writers do to a row of bytes, and a row read and tested.
 --
 --   fill-step fill-done    a row that is filled with the bytes of another, one by one from the front
 --   zeros-at               a row of zeros
@@ -7,9 +7,6 @@
 --   splice-cons            a byte, and a stretch right behind it
 --   whole                  a row replaced whole
 --   part-first part-rest   the first k bytes of a part, and the j bytes behind them
---   same-on same-off       two rows compared from a place on: the bytes there are equal, or not
---   same-end               no bytes are left
---   other-length           rows of two lengths are not the same
 --   Tested f s i           the loop that tests a row is at i: all of s pass where those from i on do
 --   tested-on tested-off tested-end    the element at i passes, or not; none is left
 --
@@ -21,13 +18,11 @@ use Prim.Native.Nat.{ℕ, zero, suc, _+_, _≤_, _<_}
 use native.Mathlib.Nat.{not-suc-le-zero, le-of-suc-le-suc, suc-add, zero-add}
 use native.Mathlib.Numerals.{add-one}
 use native.Mathlib.Omega.{arith}
-use lib.Dec.{eqb}
 use lib.ListN.{length, take, drop, set, getD, drop-of-length-le, getD-replicate}
 use lib.Seq.{take-all, take-take, take-nil, drop-drop, drop-cons, set-split}
-use borrow.Author.Tests.{eq-eqb, ne-eqb}
-use Rattle.rules.specs.Bytes.{all, sameBytes, part, splice, zeros}
+use Rattle.rules.specs.Bytes.{all, part, splice, zeros}
 use Rattle.rules.proofs.Tests.{and-off-left}
-use Rattle.rules.proofs.Lists.{splice-next, same-bytes}
+use Rattle.rules.proofs.Lists.{splice-next}
 
 -- ---- a row filled with the bytes of s
 
@@ -83,28 +78,6 @@ drop-take (suc k) j (x ∷ s) = rw suc-add (drop-take k j s)
 pub part-rest : (s : List ℕ) (a k j : ℕ) → part s (a + k) j ≡ drop k (part s a (k + j))
 unfolding part
 part-rest s a k j = sym (drop-take k j (drop a s) ∙ ap (take j) (drop-drop k a s))
-
--- ---- two rows compared
-
-module _ (a b : List ℕ) (i : ℕ) (ha : i < length a) (hb : i < length b) where
-  same-at : sameBytes (drop i a) (drop i b) ≡ (eqb (getD a i 0) (getD b i 0) && sameBytes (drop (i + 1) a) (drop (i + 1) b))
-  same-at = rw (add-one, drop-cons a i 0 ha, drop-cons b i 0 hb)
-
-  pub same-on : getD a i 0 ≡ getD b i 0 → sameBytes (drop i a) (drop i b) ≡ sameBytes (drop (i + 1) a) (drop (i + 1) b)
-  same-on e = same-at ∙ ap (λ (t : Bool). t && sameBytes (drop (i + 1) a) (drop (i + 1) b)) (eq-eqb _ _ e)
-
-  pub same-off : (getD a i 0 ≡ getD b i 0 → ⊥) → sameBytes (drop i a) (drop i b) ≡ false
-  same-off ne = same-at ∙ and-off-left _ _ (ne-eqb _ _ ne)
-
-pub same-end : (a b : List ℕ) (i : ℕ) → length a ≤ i → length b ≤ i → sameBytes (drop i a) (drop i b) ≡ true
-same-end a b i ha hb = rw (drop-of-length-le a ha, drop-of-length-le b hb)
-
-pub other-length : (a b : List ℕ) → (length a ≡ length b → ⊥) → sameBytes a b ≡ false
-other-length a b ne = go (sameBytes a b) refl
-  where
-    go : (t : Bool) → sameBytes a b ≡ t → sameBytes a b ≡ false
-    go true e = absurd (ne (ap length (same-bytes a b e)))
-    go false e = e
 
 -- ---- a row tested
 

@@ -1,10 +1,10 @@
-// Octets: bytes copied, zeroed and compared.
+// Octets: bytes copied and zeroed.
 // Whoever writes a buffer writes it through these, so bytes are copied in one place and zeroed in one place.
 ghost use mathlib.Core.Path.{_≡_};
 ghost use mathlib.Core.List.{[], _∷_};
 ghost use Prim.Native.Nat.{_+_, _≤_, _<_};
 ghost use lib.ListN.{length};
-ghost use Rattle.rules.specs.Bytes.{sameBytes, part, splice, zeros, word};
+ghost use Rattle.rules.specs.Bytes.{splice, zeros, word};
 
 // ---- a stretch of a buffer: lent on, and filled whole
 
@@ -58,31 +58,4 @@ pub fn put_word(dst: &mut [u8], at: usize, n: u16)
 {
     put_byte(dst, at, (n / 256 % 256) as u8);
     put_byte(dst, at + 1, (n % 256) as u8);
-}
-
-// ---- a stretch read
-
-// 01, "The data objects in a command": a value read is that stretch of the command itself.
-pub fn part(s: &[u8], from: usize, n: usize) -> &[u8]
-    requires { ⌜ from + n ≤ length (now s) ⌝ }
-    ensures { λ r. ⌜ now r ≡ part (now (s .entry)) from n ⌝ }
-{
-    &s[from..from + n]
-}
-
-// It ends at the first byte that differs, so secrets are not compared here but by their number.
-pub fn same(a: &[u8], b: &[u8]) -> bool
-    ensures { λ r. ⌜ r ≡ sameBytes (now (a .entry)) (now (b .entry)) ⌝ }
-{
-    if a.len() != b.len() {
-        return false;
-    }
-    let mut i = 0;
-    while i < a.len() {
-        if a[i] != b[i] {
-            return false;
-        }
-        i += 1;
-    }
-    true
 }

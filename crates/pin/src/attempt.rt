@@ -49,10 +49,10 @@ pub fn two_values(first: Form, last: Form, field: &[u8]) -> bool
     if field.len() != 16 {
         return false;
     }
-    if !has_form(first, octets::part(field, 0, 8)) {
+    if !has_form(first, parts::part(field, 0, 8)) {
         return false;
     }
-    has_form(last, octets::part(field, 8, 8))
+    has_form(last, parts::part(field, 8, 8))
 }
 
 // ---- the comparison
@@ -77,7 +77,7 @@ pub fn compare_pin(store: &mut [u8], formed: bool, field: &[u8]) -> Tried
         return Tried::Refused(0x6A80);
     }
     let fewer = tries::charge_pin(store, pin_tries);
-    if values::pin_is(store, octets::part(field, 0, 8)) {
+    if values::pin_is(store, parts::part(field, 0, 8)) {
         return Tried::Equal;
     }
     Tried::Unequal(tries_word(fewer.0))
@@ -96,7 +96,7 @@ pub fn compare_puk(store: &mut [u8], formed: bool, field: &[u8]) -> Tried
         return Tried::Refused(0x6A80);
     }
     let fewer = tries::charge_puk(store, puk_tries);
-    if values::puk_is(store, octets::part(field, 0, 8)) {
+    if values::puk_is(store, parts::part(field, 0, 8)) {
         return Tried::Equal;
     }
     Tried::Unequal(tries_word(fewer.0))

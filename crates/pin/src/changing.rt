@@ -24,7 +24,7 @@ fn change_pin(store: &mut [u8], given: bool, field: &[u8]) -> Judged
         Tried::Refused(sw) => Judged { sw, given },
         Tried::Unequal(sw) => Judged { sw, given: false },
         Tried::Equal => {
-            values::new_pin(store, octets::part(field, 8, 8));
+            values::new_pin(store, parts::part(field, 8, 8));
             tries::restore_pin(store);
             Judged {
                 sw: 0x9000,
@@ -44,7 +44,7 @@ fn change_puk(store: &mut [u8], given: bool, field: &[u8]) -> Judged
         Tried::Refused(sw) => Judged { sw, given },
         Tried::Unequal(sw) => Judged { sw, given },
         Tried::Equal => {
-            values::new_puk(store, octets::part(field, 8, 8));
+            values::new_puk(store, parts::part(field, 8, 8));
             tries::restore_puk(store);
             Judged { sw: 0x9000, given }
         }

@@ -22,7 +22,7 @@ fn reset_given(store: &mut [u8], given: bool, field: &[u8]) -> Judged
         Tried::Refused(sw) => Judged { sw, given },
         Tried::Unequal(sw) => Judged { sw, given: false },
         Tried::Equal => {
-            values::new_pin(store, octets::part(field, 8, 8));
+            values::new_pin(store, parts::part(field, 8, 8));
             tries::restore_pin(store);
             tries::restore_puk(store);
             Judged { sw: 0x9000, given }

@@ -35,8 +35,8 @@ use Rattle.rules.proofs.Lists.{length-zeros}
 use Rattle.saying.specs.declared.Sent.{Sent}
 use Rattle.saying.specs.declared.Sent.the-variants.{All, First}
 use Rattle.saying.specs.Replies.{sentReply}
-use Rattle.octets.proofs.same.Reads as octets-same
-use Rattle.octets.proofs.part.Reads as octets-part
+use Rattle.parts.proofs.same.Reads as parts-same
+use Rattle.parts.proofs.part.Reads as parts-part
 use Rattle.octets.proofs.put.Reads as octets-put
 use Rattle.octets.proofs.zero.Reads as octets-zero
 use Rattle.octets.proofs.put_byte.Reads as octets-put-byte
@@ -112,11 +112,11 @@ anySession = record { contactless = false; pin = false; admin = false; chain = S
 
 -- ---- octets
 
-once-octets-same : (κs : _) (a : _) (r q : Bool) (s t : _) → octets-same.Post κs a r s → octets-same.Post κs a q t → r ≡ q
-once-octets-same κs a r q s t = alike r q
+once-parts-same : (κs : _) (a : _) (r q : Bool) (s t : _) → parts-same.Post κs a r s → parts-same.Post κs a q t → r ≡ q
+once-parts-same κs a r q s t = alike r q
 
-once-octets-part : (κs : _) (a : _) (r q : RefT (List ℕ)) (s t : _) → octets-part.Post κs a r s → octets-part.Post κs a q t → now r ≡ now q
-once-octets-part κs a r q s t = alike _ _
+once-parts-part : (κs : _) (a : _) (r q : RefT (List ℕ)) (s t : _) → parts-part.Post κs a r s → parts-part.Post κs a q t → now r ≡ now q
+once-parts-part κs a r q s t = alike _ _
 
 once-octets-put : (κs : _) (a : _) (s t : _) → octets-put.Post κs a tt s → octets-put.Post κs a tt t → now (s .0) ≡ now (t .0)
 once-octets-put κs a s t = alike _ _

@@ -48,7 +48,7 @@ fn put_chain(
 {
     let n = len + field.len();
     octets::put(work, len, field);
-    let sw = storing::put_whole(store, octets::part(work, 0, n));
+    let sw = storing::put_whole(store, parts::part(work, 0, n));
     octets::zero(work, 0, n);
     saying::say(s, resp, sw)
 }

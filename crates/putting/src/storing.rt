@@ -62,6 +62,6 @@ pub fn put_whole(store: &mut [u8], d: &[u8]) -> u16
     if !table::takes(slot, len) {
         return 0x6A84;
     }
-    store::put_object(store, slot, octets::part(d, from, len));
+    store::put_object(store, slot, parts::part(d, from, len));
     0x9000
 }

@@ -63,7 +63,7 @@ fn send_part(work: &mut [u8], resp: &mut [u8], le: usize, head: &[u8], body: &[u
 {
     let n = head.len() + body.len();
     join(work, head, body);
-    show(resp, octets::part(work, 0, le), left_word(n - le));
+    show(resp, parts::part(work, 0, le), left_word(n - le));
 }
 
 // Every data answer goes out here.
@@ -89,7 +89,7 @@ fn fetch_last(s: Session, work: &mut [u8], resp: &mut [u8], from: usize, n: usiz
     requires { ⌜ (n ≤ 256) × (258 ≤ length (now resp)) × (from + n ≤ 13321) × (heldLength s ≤ 13321) × (length (now work) ≡ 13321) ⌝ }
     ensures { λ r. ⌜ ((m : List ℕ) → outcome r m (now (work .exit)) (now (resp .exit)) ≡ (delivered (now (resp .entry)) (tells (dropped (state m (now (work .entry)) s)) (responds (part (now (work .entry)) from n) 0x9000))) .outcome) ⌝ }
 {
-    show(resp, octets::part(work, from, n), 0x9000);
+    show(resp, parts::part(work, from, n), 0x9000);
     Reply {
         answer: Answer::Response { len: n + 2 },
         session: held::drop_held(s, work),
@@ -112,7 +112,7 @@ pub fn fetch(
     if left <= le {
         return fetch_last(s, work, resp, fetched, left);
     }
-    show(resp, octets::part(work, fetched, le), left_word(left - le));
+    show(resp, parts::part(work, fetched, le), left_word(left - le));
     Reply {
         answer: Answer::Response { len: le + 2 },
         session: session::holding(

@@ -15,7 +15,7 @@ pub fn object(store: &[u8], slot: usize) -> &[u8]
     ensures { λ r. ⌜ now r ≡ objectOf (now (store .entry)) slot ⌝ }
 {
     let at = table::offset(slot);
-    octets::part(store, at + 2, numbers::be16(store, at))
+    parts::part(store, at + 2, numbers::be16(store, at))
 }
 
 // A slot, whichever has that capacity: the length, the value, and zeros to its end.

@@ -100,7 +100,7 @@ pub fn session_in(b: &[u8]) -> Taken
     let s = unpack(b);
     let mut again = [0u8; 64];
     packed::pack(&mut again, s);
-    if !octets::same(&again, b) {
+    if !parts::same(&again, b) {
         return Taken::No;
     }
     Taken::Is(s)

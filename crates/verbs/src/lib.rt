@@ -58,7 +58,7 @@ const ON_CONTACTLESS: [u8; 4] = [111, 110, 32, 49];
 fn starts(l: &[u8], from: usize, w: &[u8]) -> bool
     ensures { λ r. ⌜ r ≡ Verbs·starts (now (l .entry)) from (now (w .entry)) ⌝ }
 {
-    octets::same(lines::first(lines::after(l, from), w.len()), w)
+    parts::same(lines::first(lines::after(l, from), w.len()), w)
 }
 
 fn buffer_at(l: &[u8], from: usize) -> Named
@@ -162,15 +162,15 @@ pub fn verb_of(l: &[u8]) -> Verb
         return Verb::Ask(What::Done, 5);
     }
     let fail = FAIL;
-    if octets::same(l, &fail) {
+    if parts::same(l, &fail) {
         return Verb::Ask(What::Failed, 4);
     }
     let contact = ON_CONTACT;
-    if octets::same(l, &contact) {
+    if parts::same(l, &contact) {
         return Verb::PowerOn(false);
     }
     let contactless = ON_CONTACTLESS;
-    if octets::same(l, &contactless) {
+    if parts::same(l, &contactless) {
         return Verb::PowerOn(true);
     }
     let session = SESSION;

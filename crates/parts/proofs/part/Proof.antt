@@ -1,10 +1,10 @@
--- `octets::part` meets its contract: the stretch is lent on.
+-- `parts::part` meets its contract: the stretch is lent on.
 -- Assumes nothing.
 use native.Mathlib.Nat.{add-sub-cancel-left}
 use borrow.Author.Needs.{needs}
 use Rattle.rules.specs.Bytes.{part}
-use Rattle.octets.proofs.part.Statement.{statement}
-use Rattle.octets.proofs.part.Tie as tie
+use Rattle.parts.proofs.part.Statement.{statement}
+use Rattle.parts.proofs.part.Tie as tie
 
 add-result : tie.Need-add-result
 add-result c = search needs

@@ -1,4 +1,4 @@
--- `octets::same` meets its contract. The loop's invariant: the rows are the same where their rests from i on are.
+-- `parts::same` meets its contract. The loop's invariant: the rows are the same where their rests from i on are.
 -- Assumes nothing.
 use mathlib.Core.Path.{_≡_, refl, sym, _∙_}
 use Prim.Native.Nat.{_-_, _≤_}
@@ -7,9 +7,9 @@ use borrow.Author.Needs.{needs}
 use denote.Ref.{now}
 use lib.ListN.{length, drop}
 use Rattle.rules.specs.Bytes.{sameBytes}
-use Rattle.octets.proofs.Laws.{same-on, same-off, same-end, other-length}
-use Rattle.octets.proofs.same.Statement.{statement}
-use Rattle.octets.proofs.same.Tie as tie
+use Rattle.parts.proofs.Laws.{same-on, same-off, same-end, other-length}
+use Rattle.parts.proofs.same.Statement.{statement}
+use Rattle.parts.proofs.same.Tie as tie
 
 abbrev Inv-loop : tie.InvT-loop
 Inv-loop a b i₀ i = (i ≤ length a) × (sameBytes a b ≡ sameBytes (drop i a) (drop i b))
