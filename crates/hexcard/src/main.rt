@@ -5,117 +5,84 @@ mod hexlines;
 use libc::STDIN_FILENO;
 use libc::STDOUT_FILENO;
 use rules::Session;
-ghost use mathlib.Core.Path.{_≡_};
 ghost use Prim.Native.Nat.{_≤_};
-ghost use lib.ListN.{length};
 
-// Between two bytes of the input: the session, how many bytes of the line are kept, and whether the input may go on.
-struct At {
-    session: Session,
+// Where the input stands after a line. The line, if there is one, is the first n bytes of its buffer; of the bytes that are
+// read, those from `at` up to `end` come next, unless the input is over.
+struct Line {
     n: usize,
+    at: usize,
+    end: usize,
     more: bool,
+    over: bool,
 }
 
-fn least(a: usize, b: usize) -> usize
-    ensures { λ r. ⌜ r ≤ b ⌝ }
+// So many bytes are read; none at the end of the input.
+fn read(given: &mut [u8; 4096]) -> usize
+    ensures { λ r. ⌜ r ≤ 4096 ⌝ }
 {
-    if a < b { a } else { b }
+    let got = libc::read(STDIN_FILENO, given);
+    io::count(got, given)
 }
 
-fn answer(
-    session: Session,
-    store: &mut [u8],
-    work: &mut [u8],
-    resp: &mut [u8],
-    line: &[u8],
-) -> Session
-    requires { ⌜ length (now resp) ≡ 258 ⌝ }
+// A proved loop has to end, and nothing says that a line does: so its turns are counted, from a number that no run uses up.
+fn next(given: &mut [u8; 4096], line: &mut [u8; 1024], from: usize, to: usize, ended: bool) -> Line
+    requires { ⌜ to ≤ 4096 ⌝ }
+    ensures { λ r. ⌜ r .end ≤ 4096 ⌝ }
 {
-    let mut out = [0u8; 1024];
-    let said = hexlines::answer(session, store, work, resp, line, &mut out);
-    let n = least(said.len, 1024);
-    io::write_all(STDOUT_FILENO, &out[..n]);
-    said.session
-}
-
-fn byte(at: At, store: &mut [u8], work: &mut [u8], resp: &mut [u8], line: &mut [u8], b: u8) -> At
-    requires { ⌜ (length (now resp) ≡ 258) × (1 ≤ length (now line)) × (at .n ≤ length (now line)) ⌝ }
-    ensures { λ r. ⌜ r .n ≤ length (now (line .entry)) ⌝ }
-{
-    let n = at.n;
-    let s = at.session;
-    if b == 10 {
-        let next = answer(s, store, work, resp, &line[..n]);
-        return At {
-            session: next,
-            n: 0,
-            more: true,
-        };
-    }
-    let m = keeping::keep(line, n, b);
-    At {
-        session: s,
-        n: m,
-        more: true,
-    }
-}
-
-fn bytes(
-    at: At,
-    store: &mut [u8],
-    work: &mut [u8],
-    resp: &mut [u8],
-    line: &mut [u8],
-    given: &[u8],
-) -> At
-    requires { ⌜ (length (now resp) ≡ 258) × (1 ≤ length (now line)) × (at .n ≤ length (now line)) ⌝ }
-    ensures { λ r. ⌜ r .n ≤ length (now (line .entry)) ⌝ }
-{
-    let mut now = at;
-    let mut i = 0;
-    while i < given.len() {
-        now = byte(now, store, work, resp, line, given[i]);
-        i += 1;
-    }
-    now
-}
-
-fn read(at: At, store: &mut [u8], work: &mut [u8], resp: &mut [u8], line: &mut [u8]) -> At
-    requires { ⌜ (length (now resp) ≡ 258) × (1 ≤ length (now line)) × (at .n ≤ length (now line)) ⌝ }
-    ensures { λ r. ⌜ r .n ≤ length (now (line .entry)) ⌝ }
-{
-    let mut given = io::buffer();
-    let got = libc::read(STDIN_FILENO, &mut given);
-    let m = io::count(got, &given);
-    if m == 0 {
-        let s = at.session;
-        return At {
-            session: s,
-            n: at.n,
-            more: false,
-        };
-    }
-    bytes(at, store, work, resp, line, &given[..m])
-}
-
-// A proved loop has to end, and nothing says that the input does: so its turns are counted, from a number that no run uses up.
-fn run(session: Session, store: &mut [u8], work: &mut [u8], resp: &mut [u8], line: &mut [u8])
-    requires { ⌜ (length (now resp) ≡ 258) × (1 ≤ length (now line)) ⌝ }
-{
-    let mut at = At {
-        session,
-        n: 0,
-        more: true,
-    };
+    let mut n = 0;
+    let mut at = from;
+    let mut end = to;
+    let mut more = false;
+    let mut over = ended;
     let mut turns = u64::MAX;
-    while turns > 0 && at.more {
-        at = read(at, store, work, resp, line);
+    while turns > 0 && !over {
         turns -= 1;
+        if at < end {
+            let b = given[at];
+            at += 1;
+            if b == 10 {
+                more = true;
+                turns = 0;
+            } else {
+                n = keeping::keep(line, n, b);
+            }
+        } else {
+            end = read(given);
+            at = 0;
+            over = end == 0;
+            more = n > 0;
+        }
     }
-    let n = at.n;
-    let s = at.session;
-    if n > 0 {
-        answer(s, store, work, resp, &line[..n]);
+    Line {
+        n,
+        at,
+        end,
+        more,
+        over,
+    }
+}
+
+// The same of the lines: nothing says that they end.
+fn run(
+    first: Session,
+    store: &mut [u8; 33400],
+    work: &mut [u8; 13321],
+    resp: &mut [u8; 258],
+    given: &mut [u8; 4096],
+    line: &mut [u8; 1024],
+) {
+    let mut session = first;
+    let mut l = next(given, line, 0, 0, false);
+    let mut turns = u64::MAX;
+    while turns > 0 && l.more {
+        let mut out = [0u8; 1024];
+        let text = lines::first(line, l.n);
+        let said = hexlines::answer(session, store, work, resp, text, &mut out);
+        io::write_all(STDOUT_FILENO, lines::first(&out, said.len));
+        session = said.session;
+        l = next(given, line, l.at, l.end, l.over);
+        turns -= 1;
     }
 }
 
@@ -123,8 +90,16 @@ fn main() {
     let mut store = [0u8; 33400];
     let mut work = [0u8; 13321];
     let mut resp = [0u8; 258];
+    let mut given = [0u8; 4096];
     let mut line = [0u8; 1024];
     issued::fixed_card(&mut store);
     let reply = card::power_on(&store, &mut work, false);
-    run(reply.session, &mut store, &mut work, &mut resp, &mut line);
+    run(
+        reply.session,
+        &mut store,
+        &mut work,
+        &mut resp,
+        &mut given,
+        &mut line,
+    );
 }

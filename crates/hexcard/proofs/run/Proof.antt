@@ -1,68 +1,54 @@
--- The loop's invariant: the buffers keep their lengths, and the line that is kept fits its own.
+-- The loop's invariant: the bytes that are read fit their buffer.
 -- Assumes nothing.
-use mathlib.Core.Path.{_≡_}
 use Prim.Native.Nat.{_≤_}
-use lib.ListN.{length, length-take}
 use native.Mathlib.Omega.{arith}
 use Rattle.hexcard.proofs.run.Statement.{statement}
 use Rattle.hexcard.proofs.run.Tie as tie
 
 abbrev Inv-loop : tie.InvT-loop
-Inv-loop store₀ work₀ resp₀ line₀ at₀ turns₀ store work resp line at turns = (length store ≡ length store₀) × (length work ≡ length work₀) × (length resp ≡ length resp₀) × (length line ≡ length line₀) × (at .n ≤ length line)
+Inv-loop store₀ work₀ resp₀ given₀ line₀ session₀ l₀ turns₀ store work resp given line session l turns = l .end ≤ 4096
 
 abbrev μ-loop : tie.MeasureT-loop
-μ-loop store₀ work₀ resp₀ line₀ at₀ turns₀ store work resp line at turns = turns
+μ-loop store₀ work₀ resp₀ given₀ line₀ session₀ l₀ turns₀ store work resp given line session l turns = turns
+
+next-requires : tie.Need-next-requires Inv-loop μ-loop
+next-requires c κs = omega arith
 
 loop-holds : tie.Need-loop-holds Inv-loop μ-loop
 loop-holds c = omega arith
 
-read-requires : tie.Need-read-requires Inv-loop μ-loop
-read-requires c κs = omega arith
-
-sub-turns : tie.Need-sub-turns Inv-loop μ-loop
-sub-turns c = omega arith
-
-loop-less : tie.Need-loop-less Inv-loop μ-loop
-loop-less c = omega arith
-
-loop-again : tie.Need-loop-again Inv-loop μ-loop
-loop-again c = omega arith
-
-slice-reshare-prefix-answer : tie.Need-slice-reshare-prefix-answer Inv-loop μ-loop
-slice-reshare-prefix-answer c = omega arith
+first-requires : tie.Need-first-requires Inv-loop μ-loop
+first-requires c κs = omega arith
 
 slice-aggregate-answer : tie.Need-slice-aggregate-answer Inv-loop μ-loop
-slice-aggregate-answer c = simp length-take (omega arith)
+slice-aggregate-answer c = omega arith
 
 answer-requires : tie.Need-answer-requires Inv-loop μ-loop
 answer-requires c κs = omega arith
 
-same-length : tie.Need-same-length Inv-loop μ-loop
-same-length c = omega arith
+slice-aggregate-first : tie.Need-slice-aggregate-first Inv-loop μ-loop
+slice-aggregate-first c = omega arith
 
-same-length-2 : tie.Need-same-length-2 Inv-loop μ-loop
-same-length-2 c = omega arith
+first-requires-2 : tie.Need-first-requires-2 Inv-loop μ-loop
+first-requires-2 c κs = omega arith
 
-same-length-3 : tie.Need-same-length-3 Inv-loop μ-loop
-same-length-3 c = omega arith
+write-all-requires : tie.Need-write-all-requires Inv-loop μ-loop
+write-all-requires c κs = omega arith
 
-same-length-4 : tie.Need-same-length-4 Inv-loop μ-loop
-same-length-4 c = omega arith
+next-requires-2 : tie.Need-next-requires-2 Inv-loop μ-loop
+next-requires-2 c κs = omega arith
+
+sub-turns : tie.Need-sub-turns Inv-loop μ-loop
+sub-turns c = omega (arith, c .before .before .before .before .before .before .before .before .before .before .before .before .before .before .before .before .before .loop-test .taken)
+
+loop-less : tie.Need-loop-less Inv-loop μ-loop
+loop-less c = omega (arith, c .before .before .before .before .before .before .before .before .before .before .before .before .before .before .before .before .before .loop-test .taken)
+
+loop-again : tie.Need-loop-again Inv-loop μ-loop
+loop-again c = omega arith
 
 returns : tie.Need-returns Inv-loop μ-loop
 returns c = omega arith
-
-same-length-5 : tie.Need-same-length-5 Inv-loop μ-loop
-same-length-5 c = omega arith
-
-same-length-6 : tie.Need-same-length-6 Inv-loop μ-loop
-same-length-6 c = omega arith
-
-same-length-7 : tie.Need-same-length-7 Inv-loop μ-loop
-same-length-7 c = omega arith
-
-same-length-8 : tie.Need-same-length-8 Inv-loop μ-loop
-same-length-8 c = omega arith
 
 returns-2 : tie.Need-returns-2 Inv-loop μ-loop
 returns-2 c = omega arith
@@ -73,21 +59,17 @@ run-spec =
     (tie.spec
     Inv-loop
     μ-loop
+    next-requires
     loop-holds
-    read-requires
+    first-requires
+    slice-aggregate-answer
+    answer-requires
+    slice-aggregate-first
+    first-requires-2
+    write-all-requires
+    next-requires-2
     sub-turns
     loop-less
     loop-again
-    slice-reshare-prefix-answer
-    slice-aggregate-answer
-    answer-requires
-    same-length
-    same-length-2
-    same-length-3
-    same-length-4
     returns
-    same-length-5
-    same-length-6
-    same-length-7
-    same-length-8
     returns-2)
