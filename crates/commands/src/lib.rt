@@ -1,8 +1,12 @@
-// A command by its own rules (01, "Command by command"). Here what it drops, and which rule answers it; answers has SELECT and GET RESPONSE.
+// A command, the second of the card's three calls: whether the host may make it, its checks, and its own rules (01, "Command by command").
+// Here what it drops, which rule answers it, and the call itself; answers has SELECT and GET RESPONSE.
 mod answers;
 
+use rules::Answer;
 use rules::Challenge;
+use rules::Checked;
 use rules::Header;
+use rules::Permit;
 use rules::Reply;
 use rules::Session;
 ghost use mathlib.Core.Path.{_≡_};
@@ -12,10 +16,12 @@ ghost use Prim.Native.Nat.{ℕ, _≤_};
 ghost use lib.Dec.{eqb};
 ghost use lib.ListN.{length};
 ghost use Rattle.rules.specs.Store.{wellFormed};
-ghost use Rattle.rules.specs.Session.{state, heldLength, restOk};
+ghost use Rattle.rules.specs.Session.{state, heldLength, restOk, possible};
+ghost use Rattle.rules.specs.Command.{fieldOf};
 ghost use Rattle.rules.specs.Held.{dropped};
 ghost use Rattle.rules.specs.Objects.{select, getData};
-ghost use Rattle.rules.specs.Calls.{outcome, delivered, ruled};
+ghost use Rattle.rules.specs.Calls.{outcome, delivered, ruled, command, sends, call};
+ghost use Rattle.apdu.specs.Shape.{Shaped};
 
 // ---- SELECT and GET DATA drop what is held first
 
@@ -57,7 +63,7 @@ fn on_reference(ins: u8) -> bool
     ins == 0x2C
 }
 
-pub fn rule(
+fn rule(
     ch: Challenge,
     s: Session,
     store: &mut [u8],
@@ -86,4 +92,54 @@ pub fn rule(
         return keys::authenticate(ch, s, store, work, resp, h, field);
     }
     putting::put_data(s, store, work, resp, h, field)
+}
+
+// ---- the call
+
+// The data of a command: that stretch of it.
+fn field(c: &[u8], h: Header) -> &[u8]
+    requires { ⌜ Shaped (now c) h ⌝ }
+    ensures { λ r. ⌜ now r ≡ fieldOf (now (c .entry)) h ⌝ }
+{
+    let lc = h.lc;
+    if lc == 0 {
+        return &c[..0];
+    }
+    parts::part(c, 5, lc)
+}
+
+// Every command drops a held challenge; 87 may compare it first.
+fn obey(session: Session, store: &mut [u8], work: &mut [u8], resp: &mut [u8], cmd: &[u8]) -> Reply
+    requires { ⌜ (258 ≤ length (now resp)) × (wellFormed (now store) ≡ true) × (possible session ≡ true) × (length (now work) ≡ 13321) ⌝ }
+    ensures { λ r. ⌜ outcome r (now (store .exit)) (now (work .exit)) (now (resp .exit)) ≡ (delivered (now (resp .entry)) (command (state (now (store .entry)) (now (work .entry)) session) (now (cmd .entry)))) .outcome ⌝ }
+{
+    let challenge = session.challenge;
+    let s = session::with_challenge(session, Challenge::Unasked);
+    match apdu::check(session.contactless, cmd) {
+        Checked::Failed(sw) => saying::drop_say(s, work, resp, sw),
+        Checked::Passed(h) => rule(challenge, s, store, work, resp, h, field(cmd, h)),
+    }
+}
+
+pub fn command(
+    session: Session,
+    store: &mut [u8],
+    work: &mut [u8],
+    resp: &mut [u8],
+    cmd: &[u8],
+) -> Reply
+    ensures { λ r. ⌜ outcome r (now (store .exit)) (now (work .exit)) (now (resp .exit)) ≡ (call (state (now (store .entry)) (now (work .entry)) session) (sends (now (resp .entry)) (now (cmd .entry)))) .outcome ⌝ }
+{
+    match permit::command(
+        wellformed::well_formed(store),
+        session,
+        resp.len(),
+        work.len(),
+    ) {
+        Permit::Denied(x) => Reply {
+            answer: Answer::Refused(x),
+            session,
+        },
+        Permit::Granted => obey(session, store, work, resp, cmd),
+    }
 }

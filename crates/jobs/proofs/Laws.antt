@@ -4,11 +4,12 @@
 --   le-small               the expected length of a possible job
 --   fits-short             no result is over 256 bytes
 --   fits-sixteen           a challenge and its reply are 16
+--   fits-unless            a result that is not reported as failed fits
 --   done-none done-failed done-challenge done-result    the result of a job
 --
 -- Assumes nothing.
-use mathlib.Core.Path.{_≡_, ap, sym, _∙_}
-use mathlib.Core.Bool.{Bool, true, false, _&&_}
+use mathlib.Core.Path.{_≡_, refl, ap, sym, _∙_}
+use mathlib.Core.Bool.{Bool, true, false, not, _&&_, true≢false}
 use mathlib.Core.List.{List, _∷_, _++_, append-assoc}
 use Prim.Native.Nat.{ℕ, _+_, _≤_}
 use native.Mathlib.Omega.{arith}
@@ -105,3 +106,9 @@ module _ (st : State) (j : Job) (b : Bool) (r : List ℕ) where
     pub done-result : b ≡ false → (key ≡ 0x9B → ⊥) → finished st j b r ≡ send (inSession st t) le (tlv 0x7C (tlv 0x82 r))
     unfolding answered
     done-result f p = done ∙ off _ _ _ f ∙ off _ _ _ (ne-eqb key 0x9B p)
+
+-- a result that is not reported as failed fits
+pub fits-unless : (failed fits : Bool) → (not failed && not fits) ≡ false → failed ≡ false → fits ≡ true
+fits-unless true fits e f = absurd (true≢false f)
+fits-unless false true e f = refl
+fits-unless false false e f = absurd (true≢false e)

@@ -1,7 +1,9 @@
-// What is told of a job's result (01, "GENERAL AUTHENTICATE"): 6F00 where the host reports it as failed, the challenge
-// as 7C{81 challenge}, and any other result as 7C{82 result}.
+// The result of a job, the last of the card's three calls: whether the host may make it, and what is told of it (01, "GENERAL AUTHENTICATE"): 6F00 where
+// the host reports it as failed, the challenge as 7C{81 challenge}, and any other result as 7C{82 result}.
+use rules::Answer;
 use rules::Challenge;
 use rules::Job;
+use rules::Permit;
 use rules::Reply;
 use rules::Session;
 use saying::Sent;
@@ -14,7 +16,7 @@ ghost use Rattle.rules.specs.Ber.{tlv};
 ghost use Rattle.rules.specs.Session.{state, running, jobOk};
 ghost use Rattle.rules.specs.Held.{send};
 ghost use Rattle.rules.specs.Keys.{resultFits, challenged, finished};
-ghost use Rattle.rules.specs.Calls.{outcome, delivered};
+ghost use Rattle.rules.specs.Calls.{outcome, delivered, finishes, call};
 ghost use Rattle.saying.specs.Replies.{sentReply};
 
 // ---- a template that goes out
@@ -53,7 +55,7 @@ fn challenged(s: Session, work: &mut [u8], resp: &mut [u8], le: usize, result: &
 }
 
 // The caller has seen to it that a job is open; the job is closed, whatever its result.
-pub fn finish(s: Session, work: &mut [u8], resp: &mut [u8], failed: bool, result: &[u8]) -> Reply
+fn finish(s: Session, work: &mut [u8], resp: &mut [u8], failed: bool, result: &[u8]) -> Reply
     requires { ⌜ (258 ≤ length (now resp)) × (length (now work) ≡ 13321) × (jobOk (s .job) ≡ true) × (running (s .job) ≡ true) × (failed ≡ false → resultFits (s .job) (now result) ≡ true) ⌝ }
     ensures { λ r. ⌜ ((m : List ℕ) → outcome r m (now (work .exit)) (now (resp .exit)) ≡ (delivered (now (resp .entry)) (finished (state m (now (work .entry)) s) (s .job) failed (now (result .entry)))) .outcome) ⌝ }
 {
@@ -70,4 +72,33 @@ pub fn finish(s: Session, work: &mut [u8], resp: &mut [u8], failed: bool, result
     }
     let sent = give(work, resp, le, 0x82, result);
     saying::told(t, sent)
+}
+
+// ---- the call
+
+// The result of the open job, or that it failed.
+pub fn job_result(
+    session: Session,
+    store: &[u8],
+    work: &mut [u8],
+    resp: &mut [u8],
+    failed: bool,
+    result: &[u8],
+) -> Reply
+    ensures { λ r. ⌜ outcome r (now (store .entry)) (now (work .exit)) (now (resp .exit)) ≡ (call (state (now (store .entry)) (now (work .entry)) session) (finishes (now (resp .entry)) failed (now (result .entry)))) .outcome ⌝ }
+{
+    match permit::job_result(
+        wellformed::well_formed(store),
+        session,
+        resp.len(),
+        work.len(),
+        failed,
+        result.len(),
+    ) {
+        Permit::Denied(x) => Reply {
+            answer: Answer::Refused(x),
+            session,
+        },
+        Permit::Granted => finish(session, work, resp, failed, result),
+    }
 }

@@ -10,15 +10,22 @@ ghost use mathlib.Core.Path.{_≡_};
 ghost use Prim.Native.Nat.{_≤_};
 ghost use lib.ListN.{length};
 
-// Between two bytes of the input: the session, how much of each buffer is lent, how many bytes of the line are kept, and whether
-// the input may go on.
+// What a line is answered with: the session, and how much of each buffer is lent.
 struct Desk {
     session: Session,
     store: usize,
     work: usize,
     resp: usize,
+}
+
+// Where the input stands after a line. The line, if there is one, is the first n bytes of its buffer; of the bytes that are
+// read, those from `at` up to `end` come next, unless the input is over.
+struct Line {
     n: usize,
+    at: usize,
+    end: usize,
     more: bool,
+    over: bool,
 }
 
 fn least(a: usize, b: usize) -> usize
@@ -29,7 +36,7 @@ fn least(a: usize, b: usize) -> usize
 
 fn call(d: Desk, store: &mut [u8], work: &mut [u8], resp: &mut [u8], line: &[u8]) -> Desk
     requires { ⌜ (d .store ≤ length (now store)) × (d .work ≤ length (now work)) × (d .resp ≤ length (now resp)) × (length (now resp) ≤ 1024) ⌝ }
-    ensures { λ r. ⌜ (r .store ≡ d .store) × (r .work ≡ d .work) × (r .resp ≡ d .resp) × (r .n ≡ 0) ⌝ }
+    ensures { λ r. ⌜ (r .store ≡ d .store) × (r .work ≡ d .work) × (r .resp ≡ d .resp) ⌝ }
 {
     let mut out = [0u8; 4096];
     let s = d.session;
@@ -52,8 +59,6 @@ fn call(d: Desk, store: &mut [u8], work: &mut [u8], resp: &mut [u8], line: &[u8]
         store: a,
         work: b,
         resp: c,
-        n: 0,
-        more: true,
     }
 }
 
@@ -80,10 +85,9 @@ fn lend_named(
     from: usize,
 ) -> Desk
     requires { ⌜ (d .store ≤ length (now store)) × (d .work ≤ length (now work)) × (d .resp ≤ length (now resp)) ⌝ }
-    ensures { λ r. ⌜ (r .store ≤ length (now (store .entry))) × (r .work ≤ length (now (work .entry))) × (r .resp ≤ length (now (resp .entry))) × (r .n ≡ 0) ⌝ }
+    ensures { λ r. ⌜ (r .store ≤ length (now (store .entry))) × (r .work ≤ length (now (work .entry))) × (r .resp ≤ length (now (resp .entry))) ⌝ }
 {
     let mut next = d;
-    next.n = 0;
     match b {
         Buffer::Store => {
             next.store = lend(store, d.store, line, from);
@@ -102,7 +106,7 @@ fn lend_named(
 
 fn answer(d: Desk, store: &mut [u8], work: &mut [u8], resp: &mut [u8], line: &[u8]) -> Desk
     requires { ⌜ (d .store ≤ length (now store)) × (d .work ≤ length (now work)) × (d .resp ≤ length (now resp)) × (length (now resp) ≤ 1024) ⌝ }
-    ensures { λ r. ⌜ (r .store ≤ length (now (store .entry))) × (r .work ≤ length (now (work .entry))) × (r .resp ≤ length (now (resp .entry))) × (r .n ≡ 0) ⌝ }
+    ensures { λ r. ⌜ (r .store ≤ length (now (store .entry))) × (r .work ≤ length (now (work .entry))) × (r .resp ≤ length (now (resp .entry))) ⌝ }
 {
     let v = verbs::verb_of(line);
     if let Verb::Lend(b, from) = v {
@@ -111,86 +115,76 @@ fn answer(d: Desk, store: &mut [u8], work: &mut [u8], resp: &mut [u8], line: &[u
     call(d, store, work, resp, line)
 }
 
-fn byte(
-    d: Desk,
-    store: &mut [u8; 40000],
-    work: &mut [u8; 20000],
-    resp: &mut [u8; 1024],
-    line: &mut [u8],
-    b: u8,
-) -> Desk
-    requires { ⌜ (d .store ≤ 40000) × (d .work ≤ 20000) × (d .resp ≤ 1024) × (1 ≤ length (now line)) × (d .n ≤ length (now line)) ⌝ }
-    ensures { λ r. ⌜ (r .store ≤ 40000) × (r .work ≤ 20000) × (r .resp ≤ 1024) × (r .n ≤ length (now (line .entry))) ⌝ }
+// So many bytes are read; none at the end of the input.
+fn read(given: &mut [u8; 4096]) -> usize
+    ensures { λ r. ⌜ r ≤ 4096 ⌝ }
 {
-    let n = d.n;
-    if b == 10 {
-        return answer(d, store, work, resp, &line[..n]);
-    }
-    let mut next = d;
-    next.n = keeping::keep(line, n, b);
-    next
+    let got = libc::read(STDIN_FILENO, given);
+    io::count(got, given)
 }
 
-fn bytes(
-    d: Desk,
-    store: &mut [u8; 40000],
-    work: &mut [u8; 20000],
-    resp: &mut [u8; 1024],
-    line: &mut [u8],
-    given: &[u8],
-) -> Desk
-    requires { ⌜ (d .store ≤ 40000) × (d .work ≤ 20000) × (d .resp ≤ 1024) × (1 ≤ length (now line)) × (d .n ≤ length (now line)) ⌝ }
-    ensures { λ r. ⌜ (r .store ≤ 40000) × (r .work ≤ 20000) × (r .resp ≤ 1024) × (r .n ≤ length (now (line .entry))) ⌝ }
+// A proved loop has to end, and nothing says that a line does: so its turns are counted, from a number that no run uses up.
+fn next(
+    given: &mut [u8; 4096],
+    line: &mut [u8; 100000],
+    from: usize,
+    to: usize,
+    ended: bool,
+) -> Line
+    requires { ⌜ to ≤ 4096 ⌝ }
+    ensures { λ r. ⌜ r .end ≤ 4096 ⌝ }
 {
-    let mut desk = d;
-    let mut i = 0;
-    while i < given.len() {
-        desk = byte(desk, store, work, resp, line, given[i]);
-        i += 1;
-    }
-    desk
-}
-
-fn read(
-    d: Desk,
-    store: &mut [u8; 40000],
-    work: &mut [u8; 20000],
-    resp: &mut [u8; 1024],
-    line: &mut [u8],
-) -> Desk
-    requires { ⌜ (d .store ≤ 40000) × (d .work ≤ 20000) × (d .resp ≤ 1024) × (1 ≤ length (now line)) × (d .n ≤ length (now line)) ⌝ }
-    ensures { λ r. ⌜ (r .store ≤ 40000) × (r .work ≤ 20000) × (r .resp ≤ 1024) × (r .n ≤ length (now (line .entry))) ⌝ }
-{
-    let mut given = io::buffer();
-    let got = libc::read(STDIN_FILENO, &mut given);
-    let m = io::count(got, &given);
-    if m == 0 {
-        let mut last = d;
-        last.more = false;
-        return last;
-    }
-    bytes(d, store, work, resp, line, &given[..m])
-}
-
-// A proved loop has to end, and nothing says that the input does: so its turns are counted, from a number that no run uses up.
-fn run(
-    d: Desk,
-    store: &mut [u8; 40000],
-    work: &mut [u8; 20000],
-    resp: &mut [u8; 1024],
-    line: &mut [u8],
-)
-    requires { ⌜ (d .store ≤ 40000) × (d .work ≤ 20000) × (d .resp ≤ 1024) × (1 ≤ length (now line)) × (d .n ≤ length (now line)) ⌝ }
-{
-    let mut desk = d;
+    let mut n = 0;
+    let mut at = from;
+    let mut end = to;
+    let mut more = false;
+    let mut over = ended;
     let mut turns = u64::MAX;
-    while turns > 0 && desk.more {
-        desk = read(desk, store, work, resp, line);
+    while turns > 0 && !over {
         turns -= 1;
+        if at < end {
+            let b = given[at];
+            at += 1;
+            if b == 10 {
+                more = true;
+                turns = 0;
+            } else {
+                n = keeping::keep(line, n, b);
+            }
+        } else {
+            end = read(given);
+            at = 0;
+            over = end == 0;
+            more = n > 0;
+        }
     }
-    let n = desk.n;
-    if n > 0 {
-        answer(desk, store, work, resp, &line[..n]);
+    Line {
+        n,
+        at,
+        end,
+        more,
+        over,
+    }
+}
+
+// The same of the lines: nothing says that they end.
+fn run(
+    first: Desk,
+    store: &mut [u8; 40000],
+    work: &mut [u8; 20000],
+    resp: &mut [u8; 1024],
+    given: &mut [u8; 4096],
+    line: &mut [u8; 100000],
+)
+    requires { ⌜ (first .store ≤ 40000) × (first .work ≤ 20000) × (first .resp ≤ 1024) ⌝ }
+{
+    let mut desk = first;
+    let mut l = next(given, line, 0, 0, false);
+    let mut turns = u64::MAX;
+    while turns > 0 && l.more {
+        desk = answer(desk, store, work, resp, lines::first(line, l.n));
+        l = next(given, line, l.at, l.end, l.over);
+        turns -= 1;
     }
 }
 
@@ -205,6 +199,7 @@ fn main() {
     let mut store = [0u8; 40000];
     let mut work = [0u8; 20000];
     let mut resp = [0u8; 1024];
+    let mut given = [0u8; 4096];
     let mut line = [0u8; 100000];
     start(&mut store);
     let s = session::cleared(false);
@@ -213,8 +208,6 @@ fn main() {
         store: 33400,
         work: 13321,
         resp: 258,
-        n: 0,
-        more: true,
     };
-    run(d, &mut store, &mut work, &mut resp, &mut line);
+    run(d, &mut store, &mut work, &mut resp, &mut given, &mut line);
 }

@@ -86,11 +86,9 @@ use Rattle.apdu.proofs.check.Reads as apdu-check
 use Rattle.objects.proofs.get_data.Reads as objects-get-data
 use Rattle.putting.proofs.put_data.Reads as putting-put-data
 use Rattle.keys.proofs.authenticate.Reads as keys-authenticate
-use Rattle.jobs.proofs.finish.Reads as jobs-finish
-use Rattle.commands.proofs.rule.Reads as commands-rule
-use Rattle.card.proofs.power_on.Reads as card-power-on
-use Rattle.card.proofs.command.Reads as card-command
-use Rattle.card.proofs.job_result.Reads as card-job-result
+use Rattle.power.proofs.power_on.Reads as card-power-on
+use Rattle.commands.proofs.command.Reads as card-command
+use Rattle.jobs.proofs.job_result.Reads as card-job-result
 
 -- what is seen is the outcome itself
 itself : {A : Type 0} → Shows {O = A} {S = A} (λ o. o)
@@ -345,16 +343,6 @@ once-putting-put-data κs a r q s t x y = let e = by-outcome x y in (e .0, e .1,
 
 once-keys-authenticate : (κs : _) (a : _) (r q : Reply) (s t : _) → keys-authenticate.Post κs a r s → keys-authenticate.Post κs a q t → (r ≡ q) × (now (s .1 .1 .1 .0) ≡ now (t .1 .1 .1 .0)) × (now (s .1 .1 .1 .1 .0) ≡ now (t .1 .1 .1 .1 .0))
 once-keys-authenticate κs a r q s t x y = let e = by-outcome x y in (e .0, e .2, e .3)
-
--- ---- jobs
-
-once-jobs-finish : (κs : _) (a : _) (r q : Reply) (s t : _) → jobs-finish.Post κs a r s → jobs-finish.Post κs a q t → (r ≡ q) × (now (s .1 .0) ≡ now (t .1 .0)) × (now (s .1 .1 .0) ≡ now (t .1 .1 .0))
-once-jobs-finish κs a r q s t x y = let e = by-outcome (x []) (y []) in (e .0, e .2, e .3)
-
--- ---- commands
-
-once-commands-rule : (κs : _) (a : _) (r q : Reply) (s t : _) → commands-rule.Post κs a r s → commands-rule.Post κs a q t → (r ≡ q) × (now (s .1 .1 .0) ≡ now (t .1 .1 .0)) × (now (s .1 .1 .1 .0) ≡ now (t .1 .1 .1 .0)) × (now (s .1 .1 .1 .1 .0) ≡ now (t .1 .1 .1 .1 .0))
-once-commands-rule κs a r q s t x y = let e = by-outcome x y in (e .0, e .1, e .2, e .3)
 
 -- ---- card
 

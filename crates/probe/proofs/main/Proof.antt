@@ -1,4 +1,4 @@
--- The buffers are as long as they are declared.
+-- The store is as long as it is declared, and what is lent of the buffers fits.
 -- Assumes nothing.
 use lib.ListN.{length-replicate}
 use native.Mathlib.Omega.{arith}
@@ -15,11 +15,8 @@ start-requires c κs = simp length-replicate (omega arith)
 cleared-requires : tie.Need-cleared-requires
 cleared-requires c κs = search needs
 
-slice-aggregate-run : tie.Need-slice-aggregate-run
-slice-aggregate-run c = simp length-replicate (omega arith)
-
 run-requires : tie.Need-run-requires
-run-requires c κs = simp length-replicate (omega arith)
+run-requires c κs = omega arith
 
 returns : tie.Need-returns
 returns c = search needs
@@ -31,6 +28,5 @@ main-spec =
     slice-aggregate-start
     start-requires
     cleared-requires
-    slice-aggregate-run
     run-requires
     returns)

@@ -5,10 +5,10 @@ use mathlib.Core.Path.{refl, sym, _∙_}
 use Rattle.rules.specs.Session.{state}
 use Rattle.rules.specs.Calls.{lent, keptSession, granted, illSession, shortResponse, sends}
 use Rattle.rules.proofs.Permits.{granted-lets}
-use Rattle.card.proofs.Laws.{outcome-denied, outcome-granted}
+use Rattle.permit.proofs.Calls.{outcome-denied, outcome-granted}
 use borrow.Author.Needs.{needs}
-use Rattle.card.proofs.command.Statement.{statement}
-use Rattle.card.proofs.command.Tie as tie
+use Rattle.commands.proofs.command.Statement.{statement}
+use Rattle.commands.proofs.command.Tie as tie
 
 well-formed-requires : tie.Need-well-formed-requires
 well-formed-requires c κs = search needs

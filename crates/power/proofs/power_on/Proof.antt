@@ -13,10 +13,10 @@ use Rattle.rules.specs.Calls.{outcome, reply, lent, keptSession, poweredOn, gra
 use Rattle.rules.proofs.Lists.{length-zeros}
 use Rattle.octets.proofs.Laws.{whole}
 use Rattle.rules.proofs.Permits.{granted-lets}
-use Rattle.card.proofs.Laws.{outcome-denied, outcome-granted}
+use Rattle.permit.proofs.Calls.{outcome-denied, outcome-granted}
 use borrow.Author.Needs.{needs}
-use Rattle.card.proofs.power_on.Statement.{statement}
-use Rattle.card.proofs.power_on.Tie as tie
+use Rattle.power.proofs.power_on.Statement.{statement}
+use Rattle.power.proofs.power_on.Tie as tie
 
 cleared-requires : tie.Need-cleared-requires
 cleared-requires c κs = search needs

@@ -4,11 +4,12 @@ use mathlib.Core.Path.{refl, sym, _∙_}
 use borrow.Author.Tests.{ltb-false, not-false}
 use Rattle.rules.specs.Session.{state}
 use Rattle.rules.proofs.Permits.{granted-lets}
-use Rattle.card.proofs.Laws.{possible-held, outcome-denied, outcome-granted, fits-unless}
+use Rattle.permit.proofs.Calls.{possible-held, outcome-denied, outcome-granted}
+use Rattle.jobs.proofs.Laws.{fits-unless}
 use Rattle.rules.specs.Calls.{finishes, lent, keptSession, granted, illSession, shortResponse, unasked, wrongResult}
 use borrow.Author.Needs.{needs}
-use Rattle.card.proofs.job_result.Statement.{statement}
-use Rattle.card.proofs.job_result.Tie as tie
+use Rattle.jobs.proofs.job_result.Statement.{statement}
+use Rattle.jobs.proofs.job_result.Tie as tie
 
 well-formed-requires : tie.Need-well-formed-requires
 well-formed-requires c κs = search needs
