@@ -87,7 +87,7 @@ use Rattle.objects.proofs.get_data.Reads as objects-get-data
 use Rattle.putting.proofs.put_data.Reads as putting-put-data
 use Rattle.keys.proofs.authenticate.Reads as keys-authenticate
 use Rattle.power.proofs.power_on.Reads as card-power-on
-use Rattle.commands.proofs.command.Reads as card-command
+use Rattle.card.proofs.command.Reads as card-command
 use Rattle.jobs.proofs.job_result.Reads as card-job-result
 
 -- what is seen is the outcome itself

@@ -5,8 +5,8 @@ use Rattle.rules.specs.Session.{State}
 use Rattle.rules.specs.Objects.{select}
 use Rattle.rules.specs.Calls.{outcome, delivered}
 use borrow.Author.Needs.{needs}
-use Rattle.commands.proofs.select.Statement.{statement}
-use Rattle.commands.proofs.select.Tie as tie
+use Rattle.card.proofs.select.Statement.{statement}
+use Rattle.card.proofs.select.Tie as tie
 
 drop-held-requires : tie.Need-drop-held-requires
 drop-held-requires c κs = search needs

@@ -5,8 +5,8 @@ use Rattle.rules.specs.Session.{State}
 use Rattle.rules.specs.Objects.{getData}
 use Rattle.rules.specs.Calls.{outcome, delivered}
 use borrow.Author.Needs.{needs}
-use Rattle.commands.proofs.get_data.Statement.{statement}
-use Rattle.commands.proofs.get_data.Tie as tie
+use Rattle.card.proofs.get_data.Statement.{statement}
+use Rattle.card.proofs.get_data.Tie as tie
 
 drop-held-requires : tie.Need-drop-held-requires
 drop-held-requires c κs = search needs

@@ -4,10 +4,10 @@ use mathlib.Core.Path.{_∙_}
 use native.Mathlib.Omega.{arith}
 use Rattle.rules.specs.Session.{state}
 use Rattle.saying.proofs.Laws.{delivers}
-use Rattle.commands.proofs.answers.Laws.{response-p1, response-p2, response-data, response-none, response-some, rest-fits}
+use Rattle.card.proofs.answers.Laws.{response-p1, response-p2, response-data, response-none, response-some, rest-fits}
 use borrow.Author.Needs.{needs}
-use Rattle.commands.proofs.answers.get_response.Statement.{statement}
-use Rattle.commands.proofs.answers.get_response.Tie as tie
+use Rattle.card.proofs.answers.get_response.Statement.{statement}
+use Rattle.card.proofs.answers.get_response.Tie as tie
 
 drop-say-requires : tie.Need-drop-say-requires
 drop-say-requires c κs = search needs

@@ -8,10 +8,10 @@ use Rattle.rules.specs.Session.{state}
 use Rattle.rules.specs.Objects.{template}
 use Rattle.rules.proofs.Tests.{negated}
 use Rattle.saying.proofs.Laws.{replies, delivers}
-use Rattle.commands.proofs.answers.Laws.{select-p1, select-p2, select-aid, select-ok}
+use Rattle.card.proofs.answers.Laws.{select-p1, select-p2, select-aid, select-ok}
 use borrow.Author.Needs.{needs}
-use Rattle.commands.proofs.answers.select.Statement.{statement}
-use Rattle.commands.proofs.answers.select.Tie as tie
+use Rattle.card.proofs.answers.select.Statement.{statement}
+use Rattle.card.proofs.answers.select.Tie as tie
 
 say-requires : tie.Need-say-requires
 say-requires c κs = search needs

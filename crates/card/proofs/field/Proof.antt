@@ -6,8 +6,8 @@ use Prim.Native.Nat.{ℕ}
 use Rattle.rules.specs.Bytes.{part}
 use Rattle.rules.specs.Command.{fieldOf}
 use borrow.Author.Needs.{needs}
-use Rattle.commands.proofs.field.Statement.{statement}
-use Rattle.commands.proofs.field.Tie as tie
+use Rattle.card.proofs.field.Statement.{statement}
+use Rattle.card.proofs.field.Tie as tie
 
 slice-aggregate-result : tie.Need-slice-aggregate-result
 slice-aggregate-result c = search needs

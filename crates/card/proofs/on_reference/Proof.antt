@@ -1,8 +1,8 @@
 -- One INS, another, or the third.
 -- Assumes nothing.
 use borrow.Author.Tests.{eq-eqb, ne-eqb}
-use Rattle.commands.proofs.on_reference.Statement.{statement}
-use Rattle.commands.proofs.on_reference.Tie as tie
+use Rattle.card.proofs.on_reference.Statement.{statement}
+use Rattle.card.proofs.on_reference.Tie as tie
 
 returns : tie.Need-returns
 returns c = rw (eq-eqb _ _ (c .if1 .taken))

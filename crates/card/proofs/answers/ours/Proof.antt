@@ -3,8 +3,8 @@
 use mathlib.Core.Path.{sym, _∙_}
 use Rattle.rules.proofs.Tests.{or-left}
 use borrow.Author.Needs.{needs}
-use Rattle.commands.proofs.answers.ours.Statement.{statement}
-use Rattle.commands.proofs.answers.ours.Tie as tie
+use Rattle.card.proofs.answers.ours.Statement.{statement}
+use Rattle.card.proofs.answers.ours.Tie as tie
 
 slice-aggregate-same : tie.Need-slice-aggregate-same
 slice-aggregate-same c = search needs

@@ -7,8 +7,8 @@ use Rattle.rules.specs.Calls.{lent, keptSession, granted, illSession, shortResp
 use Rattle.rules.proofs.Permits.{granted-lets}
 use Rattle.permit.proofs.Calls.{outcome-denied, outcome-granted}
 use borrow.Author.Needs.{needs}
-use Rattle.commands.proofs.command.Statement.{statement}
-use Rattle.commands.proofs.command.Tie as tie
+use Rattle.card.proofs.command.Statement.{statement}
+use Rattle.card.proofs.command.Tie as tie
 
 well-formed-requires : tie.Need-well-formed-requires
 well-formed-requires c κs = search needs

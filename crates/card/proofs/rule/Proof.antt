@@ -5,10 +5,10 @@ use native.Mathlib.Omega.{arith}
 use Rattle.rules.specs.Session.{state}
 use Rattle.rules.proofs.WellFormed.{wf-size}
 use Rattle.saying.proofs.Laws.{delivers}
-use Rattle.commands.proofs.Laws.{ruled-select, ruled-data, ruled-response, ruled-pin, ruled-auth, ruled-put}
+use Rattle.card.proofs.Laws.{ruled-select, ruled-data, ruled-response, ruled-pin, ruled-auth, ruled-put}
 use borrow.Author.Needs.{needs}
-use Rattle.commands.proofs.rule.Statement.{statement}
-use Rattle.commands.proofs.rule.Tie as tie
+use Rattle.card.proofs.rule.Statement.{statement}
+use Rattle.card.proofs.rule.Tie as tie
 
 select-requires : tie.Need-select-requires
 select-requires c κs = search needs

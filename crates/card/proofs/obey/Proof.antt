@@ -11,10 +11,10 @@ use Rattle.rules.specs.Command.{says}
 use Rattle.rules.specs.Held.{dropped}
 use Rattle.rules.specs.Calls.{outcome, delivered, ruled}
 use Rattle.saying.proofs.Laws.{delivers}
-use Rattle.commands.proofs.Obeyed.{calm-held, obeyed-failed, obeyed-passed, field-few}
+use Rattle.card.proofs.Obeyed.{calm-held, obeyed-failed, obeyed-passed, field-few}
 use borrow.Author.Needs.{needs}
-use Rattle.commands.proofs.obey.Statement.{statement}
-use Rattle.commands.proofs.obey.Tie as tie
+use Rattle.card.proofs.obey.Statement.{statement}
+use Rattle.card.proofs.obey.Tie as tie
 
 with-challenge-requires : tie.Need-with-challenge-requires
 with-challenge-requires c κs = search needs
