@@ -1,4 +1,7 @@
 // From bytes to a command (01, "From bytes to a command"): check 1 on the bytes, checks 2 to 5 on the header.
+
+#![tactic(auto)]
+
 ghost use Rattle.std.specs.Prelude.{◌≡◌, not, ◌&&◌, ◌||◌, ◌+◌, ◌≤◌, eqb, length};
 ghost use Rattle.rules.specs.Command.{le_of, header, parse_long, parse, known, chains, contact_only, admit, check};
 

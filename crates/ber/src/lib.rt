@@ -1,5 +1,8 @@
 // Ber: lengths and data objects (01, "The data objects in a command").
 // Whatever is read from a command data field is read by these (crate reader carries them over a field), so the length rule stands in one place.
+
+#![tactic(auto)]
+
 ghost use Rattle.std.specs.Prelude.{◌≡◌, ◌+◌, ◌≤◌, ◌<◌, length};
 ghost use Rattle.rules.specs.Ber.{length_bytes, announced, length_value, length_at, object_at};
 

@@ -2,6 +2,9 @@
 // Each call's promise is one equation to the book: what is seen of it is what `call` says. A refused call changes no byte.
 // Power-on and the result of a job are handed on from crates of their own. Here the command: whether the host may make it, its checks, and which rule
 // answers it (01, "Command by command"); answers has SELECT and GET RESPONSE.
+
+#![tactic(auto)]
+
 mod answers;
 
 ghost use Rattle.std.specs.Prelude.{◌≡◌, true, ◌||◌, List, ℕ, ◌≤◌, eqb, length};

@@ -1,4 +1,7 @@
 // Heads: the tag and the length of a data object as they go out (01, "The data objects in a command").
+
+#![tactic(auto)]
+
 ghost use Rattle.std.specs.Prelude.{◌≡◌, ◌∷◌, ◌+◌, ◌≤◌, ◌<◌, length};
 ghost use Rattle.rules.specs.Bytes.{splice};
 ghost use Rattle.rules.specs.Ber.{length_bytes, ber_length};

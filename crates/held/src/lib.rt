@@ -1,5 +1,8 @@
 // What the card keeps between commands: what a command drops, and the pieces of a chain (01, "What the host lends", "From bytes to a command").
 // A function that is not lent a buffer promises for every buffer.
+
+#![tactic(auto)]
+
 ghost use Rattle.std.specs.Prelude.{◌≡◌, List, ℕ, ◌+◌, ◌≤◌, length};
 ghost use Rattle.rules.specs.Session.{state, chain_length, whole_length, held_length};
 ghost use Rattle.rules.specs.Held.{dropped, goes_on, based, held_piece};

@@ -1,5 +1,8 @@
 // Calls in hex: a command or the result of a job, whose bytes are given as hex digits.
 // Of a long row only the first bytes are read: past 261 every command is answered 6700, and no result is that long.
+
+#![tactic(auto)]
+
 ghost use Rattle.std.specs.Prelude.{◌≡◌, ◌/◌, min};
 ghost use Rattle.rules.specs.Session.{state};
 ghost use Rattle.rules.specs.Calls.{outcome};

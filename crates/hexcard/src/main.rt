@@ -1,5 +1,8 @@
 // The program of 01's "Checked examples": hex lines in, one contact command each, on a fixed card; a line out for each.
 // Lines end at LF; a last line without LF is a line; nothing comes after a final LF. What a line comes to is in hexlines.
+
+#![tactic(auto)]
+
 mod hexlines;
 
 ghost use Rattle.std.specs.Prelude.{◌≤◌};
@@ -9,7 +12,7 @@ use rules::Session;
 
 // Where the input stands after a line. The line, if there is one, is the first n bytes of its buffer; of the bytes that are
 // read, those from `at` up to `end` come next, unless the input is over.
-#[derive(Drop)]
+#[derive(Clone, Copy)]
 struct Line {
     n: usize,
     at: usize,

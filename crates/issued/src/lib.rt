@@ -1,4 +1,7 @@
 // Issued: the fixed card of 01's "Checked examples", as it is before the first command.
+
+#![tactic(auto)]
+
 ghost use Rattle.std.specs.Prelude.{◌≡◌, length};
 ghost use Rattle.rules.specs.Claims.Starred.{fixed};
 

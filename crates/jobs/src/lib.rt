@@ -1,5 +1,8 @@
 // The result of a job, the last of the card's three calls: whether the host may make it, and what is told of it (01, "GENERAL AUTHENTICATE"): 6F00 where
 // the host reports it as failed, the challenge as 7C{81 challenge}, and any other result as 7C{82 result}.
+
+#![tactic(auto)]
+
 ghost use Rattle.std.specs.Prelude.{◌≡◌, true, false, List, ◌++◌, ℕ, ◌≤◌, length, take};
 ghost use Rattle.rules.specs.Ber.{tlv};
 ghost use Rattle.rules.specs.Session.{state, running, job_ok};

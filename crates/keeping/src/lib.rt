@@ -1,4 +1,7 @@
 // Keeping: a line of any length, kept in a buffer that is not.
+
+#![tactic(auto)]
+
 ghost use Rattle.std.specs.Prelude.{◌≡◌, ◌&&◌, ◌≤◌, length};
 ghost use Rattle.text.specs.Text.{is_digit};
 ghost use Rattle.keeping.specs.Keeping.{kept};

@@ -1,5 +1,8 @@
 // GENERAL AUTHENTICATE (01, under this name). Here its pieces, one by one; keyuse says whether a key may be used, template what the whole comes
 // to, and forms which forms the template may have.
+
+#![tactic(auto)]
+
 mod forms;
 mod keyuse;
 mod template;

@@ -12,7 +12,7 @@ use super::forms;
 use rules::{Admin, Answer, Challenge, Found, Header, Job, Reply, Session};
 
 // What the command did: a status word went out, alone or with the administrator's status, or a job was opened and its data went out.
-#[derive(Drop)]
+#[derive(Clone, Copy)]
 pub enum Auth {
     Said,
     Knows {

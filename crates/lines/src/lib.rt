@@ -1,4 +1,7 @@
 // Lines: the start of a row and what stands behind it; what a line asks and what it leaves, and a line that nobody understands.
+
+#![tactic(auto)]
+
 ghost use Rattle.std.specs.Prelude.{◌≡◌, List, ℕ, ◌≤◌, length, take, drop};
 ghost use Rattle.rules.specs.Session.{state};
 ghost use Rattle.lines.specs.Seen.{bad_line, seen, tells};
@@ -6,7 +9,7 @@ ghost use Rattle.lines.specs.Seen.{bad_line, seen, tells};
 use rules::Session;
 
 // What a line asks of the card: a command, that a job is done, or that it failed.
-#[derive(Drop)]
+#[derive(Clone, Copy)]
 pub enum What {
     Command,
     Done,
@@ -14,7 +17,7 @@ pub enum What {
 }
 
 // What a line leaves: the session, and the number of bytes that are to be printed.
-#[derive(Drop)]
+#[derive(Clone, Copy)]
 pub struct Said {
     pub session: Session,
     pub len: usize,

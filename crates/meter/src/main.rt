@@ -1,6 +1,9 @@
 // The benchmark's program: plays a script of calls on the card, many times over, and prints a sum of what was answered.
 // The script comes from standard input: the number of rounds (four bytes, of which the first does not count), the number of bytes that are played once first (two bytes), and calls. A call is its
 // kind (0 a command, 1 the result of a job), its length in two bytes, and its bytes. Numbers have the highest byte first.
+
+#![tactic(auto)]
+
 ghost use Rattle.std.specs.Prelude.{◌≡◌, ◌≤◌, ◌<◌, length};
 
 use libc::{STDIN_FILENO, STDOUT_FILENO};

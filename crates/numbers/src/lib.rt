@@ -1,4 +1,7 @@
 // Numbers: two, three, four or eight bytes read as a number, the highest byte first.
+
+#![tactic(auto)]
+
 ghost use Rattle.std.specs.Prelude.{◌≡◌, ◌+◌, ◌≤◌, length};
 ghost use Rattle.rules.specs.Bytes.{be16, be24, be32, be64};
 

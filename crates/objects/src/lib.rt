@@ -1,4 +1,7 @@
 // GET DATA (01, "GET DATA"): what is asked for, whether it may be read now, and the object as it goes out.
+
+#![tactic(auto)]
+
 mod access;
 
 ghost use Rattle.std.specs.Prelude.{◌≡◌, true, List, ℕ, ◌≤◌, ◌<◌, length};

@@ -1,5 +1,8 @@
 // Octets: bytes copied and zeroed.
 // Whoever writes a buffer writes it through these, so bytes are copied in one place and zeroed in one place.
+
+#![tactic(auto)]
+
 ghost use Rattle.std.specs.Prelude.{◌≡◌, [], ◌∷◌, ◌+◌, ◌≤◌, ◌<◌, length};
 ghost use Rattle.rules.specs.Bytes.{splice, zeros, word};
 

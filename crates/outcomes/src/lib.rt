@@ -1,5 +1,8 @@
 // Outcomes: all that is seen of a call, as one line of text.
 // Each writer is given the buffer and a place in it, and answers the place behind what it wrote.
+
+#![tactic(auto)]
+
 mod sums;
 
 ghost use Rattle.std.specs.Prelude.{◌≡◌, ◌∷◌, ◌+◌, ◌*◌, ◌≤◌, length};

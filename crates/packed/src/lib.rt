@@ -1,4 +1,7 @@
 // Packed: a session as 64 bytes.
+
+#![tactic(auto)]
+
 ghost use Rattle.std.specs.Prelude.{◌≡◌, length};
 ghost use Rattle.packed.specs.Packed.{flag_bytes, chain_bytes, rest_bytes, challenge_bytes, job_bytes, packed};
 ghost use Rattle.packed.specs.Packed.{flag as Packed·flag};

@@ -1,4 +1,7 @@
 // Parts: bytes read where they stand. A part of a row is lent on, not copied; and two rows are compared.
+
+#![tactic(auto)]
+
 ghost use Rattle.std.specs.Prelude.{◌≡◌, ◌+◌, ◌≤◌, length};
 ghost use Rattle.rules.specs.Bytes.{same_bytes, part};
 

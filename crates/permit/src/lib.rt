@@ -1,4 +1,7 @@
 // Which calls the host may not make (01, "Calls the host may not make"): the row of refusals, in its order.
+
+#![tactic(auto)]
+
 ghost use Rattle.std.specs.Prelude.{◌≡◌, Bool, List, ℕ, length};
 ghost use Rattle.rules.specs.Store.{well_formed};
 ghost use Rattle.rules.specs.Session.{state};

@@ -9,14 +9,14 @@ ghost use Rattle.pin.specs.Attempt.{form_of, two_values, tried_of, steps_of};
 use super::{tries, values};
 
 // The form that a value must have: that of a PIN, or that of a PUK.
-#[derive(Drop)]
+#[derive(Clone, Copy)]
 pub enum Form {
     OfPin,
     OfPuk,
 }
 
 // What came of it: nothing was compared, and the word says why; the value was found unequal, and the word is 63CX; or equal.
-#[derive(Drop)]
+#[derive(Clone, Copy)]
 pub enum Tried {
     Refused(u16),
     Unequal(u16),

@@ -1,6 +1,9 @@
 // VERIFY, CHANGE REFERENCE DATA and RESET RETRY COUNTER (01, under these names). Here they are whole commands: which rule judges, what is dropped,
 // and the status word that goes out. The rules are in verifying, changing and resetting; below them a value compared (attempt) and the
 // steps on the store (tries, values).
+
+#![tactic(auto)]
+
 mod attempt;
 mod changing;
 mod resetting;

@@ -7,10 +7,10 @@ ghost use Rattle.rules.specs.Command.{the_pin, the_puk, charge, restore};
 ghost use Rattle.rules.specs.Pin.{stepped, refs_in, refs_onto};
 
 // 01: the PIN's tries left and the PUK's tries left are counted apart. A charge on one cannot be stored to the other.
-#[derive(Drop)]
+#[derive(Clone, Copy)]
 pub struct PinTries(pub u8);
 
-#[derive(Drop)]
+#[derive(Clone, Copy)]
 pub struct PukTries(pub u8);
 
 pub fn pin_left(store: &[u8]) -> PinTries

@@ -1,4 +1,7 @@
 // The form of a PIN (01, "PIN form").
+
+#![tactic(auto)]
+
 ghost use Rattle.std.specs.Prelude.{◌≡◌};
 ghost use Rattle.rules.specs.Bytes.{all};
 ghost use Rattle.rules.specs.Reference.{digit, last_two, pin_form};

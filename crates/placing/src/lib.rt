@@ -1,4 +1,7 @@
 // Placing: the bytes that a line gives for a buffer.
+
+#![tactic(auto)]
+
 ghost use Rattle.std.specs.Prelude.{◌≡◌};
 ghost use Rattle.placing.specs.Placing.{placed};
 ghost use Rattle.placing.specs.Placing.{place as Placing·place};

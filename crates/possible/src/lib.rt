@@ -1,4 +1,7 @@
 // Whether a session is possible (01, "Calls the host may not make", refusal 2).
+
+#![tactic(auto)]
+
 ghost use Rattle.std.specs.Prelude.{◌≡◌, ◌&&◌, ◌||◌};
 ghost use Rattle.rules.specs.Session.{chain_open, rest_held, challenge_held, job_open, chain_ok, rest_ok, user_key, user_algorithm, key_job_ok, job_ok, possible};
 

@@ -1,4 +1,7 @@
 // Power-on, the first of the card's three calls (01, "Power-on"): it clears the session and zeroes the work area, or is refused and changes no byte.
+
+#![tactic(auto)]
+
 ghost use Rattle.std.specs.Prelude.{◌≡◌, []};
 ghost use Rattle.rules.specs.declared.Session.{Session};
 ghost use Rattle.rules.specs.Session.{state};

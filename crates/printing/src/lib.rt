@@ -1,5 +1,8 @@
 // Printing: bytes in hex.
 // Whoever writes text is given a buffer and a place in it, and answers the place behind what it wrote.
+
+#![tactic(auto)]
+
 ghost use Rattle.std.specs.Prelude.{◌≡◌, ◌+◌, ◌*◌, ◌≤◌, ◌<◌, length};
 ghost use Rattle.rules.specs.Bytes.{splice};
 ghost use Rattle.printing.specs.Printing.{hex_of};

@@ -1,6 +1,9 @@
 // Every call of the card, by lines of text: `cmd HEX`, `done HEX`, `fail`, `on I`, `session HEX`, `store HEX`, `put store N HEX` and so on.
 // Each line is answered before the next is read. What a line comes to is the crate probelines; the program holds the buffers
 // and knows how much of each it lends.
+
+#![tactic(auto)]
+
 ghost use Rattle.std.specs.Prelude.{◌≡◌, ◌≤◌, length};
 
 use libc::{STDIN_FILENO, STDOUT_FILENO};
@@ -8,7 +11,7 @@ use rules::Session;
 use verbs::{Buffer, Verb};
 
 // What a line is answered with: the session, and how much of each buffer is lent.
-#[derive(Drop)]
+#[derive(Clone, Copy)]
 struct Desk {
     session: Session,
     store: usize,
@@ -18,7 +21,7 @@ struct Desk {
 
 // Where the input stands after a line. The line, if there is one, is the first n bytes of its buffer; of the bytes that are
 // read, those from `at` up to `end` come next, unless the input is over.
-#[derive(Drop)]
+#[derive(Clone, Copy)]
 struct Line {
     n: usize,
     at: usize,

@@ -1,4 +1,7 @@
 // PUT DATA (01, "PUT DATA"). Here the rules for each piece, and the pieces of a chain; storing has what the whole comes to at the last piece.
+
+#![tactic(auto)]
+
 mod storing;
 
 ghost use Rattle.std.specs.Prelude.{◌≡◌, ◌++◌, ◌+◌, ◌≤◌, length, take};

@@ -2,13 +2,16 @@
 // A value read is given by its place in the field itself. A reader that failed stays failed, so a row of reads is a straight line.
 // The borrow checker covers no function over such a struct: each is thin, takes it apart, calls a covered function on the slice
 // and the number, and is proved by a walk of its code, by hand. Callers use the functions on a plain slice, below.
+
+#![tactic(auto)]
+
 ghost use Rattle.std.specs.Prelude.{◌≡◌};
 ghost use Rattle.rules.specs.Ber.{object_at, ending, last_at};
 ghost use Rattle.reader.specs.Read.{after, behind_first};
 
 use rules::Found;
 
-#[derive(Drop)]
+#[derive(Clone, Copy)]
 struct Reader<'a> {
     field: &'a [u8],
     at: usize,

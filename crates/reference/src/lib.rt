@@ -1,5 +1,8 @@
 // Reference: a PIN or a PUK in its ten bytes, lent of a store: what is read of them, and the steps made on them.
 // 01, "What the host lends": limit, tries left, eight value bytes.
+
+#![tactic(auto)]
+
 ghost use Rattle.std.specs.Prelude.{◌≡◌, ◌-◌, length};
 ghost use Rattle.rules.specs.Reference.{matches, charged, restored, renewed, reference_at, put_reference};
 

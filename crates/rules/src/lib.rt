@@ -1,37 +1,39 @@
 // The types of the card: what the book (specs/) speaks of, and what the code passes and returns.
 // A thing that may be absent is an enum with a variant for its absence, so that a session has one form.
 
+#![tactic(auto)]
+
 // ---- the session (01, "What the host lends")
 
 // An open command chain: what its pieces share, and how many of its bytes the work area holds.
-#[derive(Drop)]
+#[derive(Clone, Copy)]
 pub enum Chain {
     Shut,
     Open { ins: u8, p1: u8, p2: u8, len: usize },
 }
 
 // The rest of a response: the whole's length, and how much of it is fetched.
-#[derive(Drop)]
+#[derive(Clone, Copy)]
 pub enum Rest {
     Gone,
     Left { whole: usize, fetched: usize },
 }
 
 // A challenge that was handed out: the expected reply, its eight bytes as one number.
-#[derive(Drop)]
+#[derive(Clone, Copy)]
 pub enum Challenge {
     Unasked,
     Awaits { reply: u64 },
 }
 
 // A job that the host does: its key, its algorithm and the expected length of its command.
-#[derive(Drop)]
+#[derive(Clone, Copy)]
 pub enum Job {
     Idle,
     Running { key: u8, alg: u8, le: usize },
 }
 
-#[derive(Drop)]
+#[derive(Clone, Copy)]
 pub struct Session {
     pub contactless: bool,
     pub pin: bool,
@@ -45,7 +47,7 @@ pub struct Session {
 // ---- what a call answers
 
 // Why a call is refused. 01's number of each is `refusal_number` of specs/Calls.
-#[derive(Drop)]
+#[derive(Clone, Copy)]
 pub enum Refusal {
     IllStore,
     IllSession,
@@ -56,14 +58,14 @@ pub enum Refusal {
     WrongResult,
 }
 
-#[derive(Drop)]
+#[derive(Clone, Copy)]
 pub enum Permit {
     Granted,
     Denied(Refusal),
 }
 
 // A response stands in the first `len` bytes of the response buffer, and so do a job's data.
-#[derive(Drop)]
+#[derive(Clone, Copy)]
 pub enum Answer {
     PoweredOn,
     Response { len: usize },
@@ -71,14 +73,14 @@ pub enum Answer {
     Refused(Refusal),
 }
 
-#[derive(Drop)]
+#[derive(Clone, Copy)]
 pub struct Reply {
     pub answer: Answer,
     pub session: Session,
 }
 
 // What a rule on references says: a status word, and the PIN status after it.
-#[derive(Drop)]
+#[derive(Clone, Copy)]
 pub struct Judged {
     pub sw: u16,
     pub given: bool,
@@ -87,7 +89,7 @@ pub struct Judged {
 // ---- a command, taken apart
 
 // The header, the number of data bytes (they start at 5) and the expected length.
-#[derive(Drop)]
+#[derive(Clone, Copy)]
 pub struct Header {
     pub cla: u8,
     pub ins: u8,
@@ -98,7 +100,7 @@ pub struct Header {
 }
 
 // A command that passes a check, or the status word that ends it.
-#[derive(Drop)]
+#[derive(Clone, Copy)]
 pub enum Checked {
     Passed(Header),
     Failed(u16),
@@ -107,28 +109,28 @@ pub enum Checked {
 // ---- data objects: places in a row of bytes
 
 // A BER length, and the place after it.
-#[derive(Drop)]
+#[derive(Clone, Copy)]
 pub enum Length {
     Is { len: usize, next: usize },
     Bad,
 }
 
 // An object's value: the place where it starts, and its length.
-#[derive(Drop)]
+#[derive(Clone, Copy)]
 pub enum Found {
     Value { from: usize, len: usize },
     Missing,
 }
 
 // The slot that a tag list names; 12 where its tag is not in the table.
-#[derive(Drop)]
+#[derive(Clone, Copy)]
 pub enum Asked {
     Slot(usize),
     NoTag,
 }
 
 // What the data of a whole PUT DATA say: a slot (12 where its tag is not in the table), and where the value stands.
-#[derive(Drop)]
+#[derive(Clone, Copy)]
 pub enum Put {
     Object {
         slot: usize,
@@ -139,7 +141,7 @@ pub enum Put {
 }
 
 // What the administrator's template says: give a challenge, or here is the reply.
-#[derive(Drop)]
+#[derive(Clone, Copy)]
 pub enum Admin {
     GiveChallenge,
     Reply { from: usize },

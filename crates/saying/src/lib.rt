@@ -1,5 +1,8 @@
 // A status word alone, as it goes out, and what the host is told of a data answer that went out. A function that is not lent a buffer
 // promises for every buffer.
+
+#![tactic(auto)]
+
 ghost use Rattle.std.specs.Prelude.{◌≡◌, List, ℕ, ◌≤◌, length};
 ghost use Rattle.rules.specs.Session.{state, held_length};
 ghost use Rattle.rules.specs.Command.{says};
@@ -35,7 +38,7 @@ pub fn drop_say(s: Session, work: &mut [u8], resp: &mut [u8], sw: u16) -> Reply
 // ---- a data answer
 
 // What went out: all of an answer, or its first bytes; each with the length of the response.
-#[derive(Drop)]
+#[derive(Clone, Copy)]
 pub enum Sent {
     All {
         len: usize,

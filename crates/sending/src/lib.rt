@@ -1,6 +1,9 @@
 // Data answers as they go out: those that fit Le, and those that do not, of which the whole is held
 // (01, "From bytes to a command", "GET RESPONSE"). A function that is not lent a buffer promises for every buffer,
 // and `send`, which is not given the session, for every session: the bytes go out first, `saying::told` says what the host learns.
+
+#![tactic(auto)]
+
 ghost use Rattle.std.specs.Prelude.{◌≡◌, List, ◌++◌, ℕ, ◌+◌, ◌-◌, ◌≤◌, ◌<◌, length, take};
 ghost use Rattle.rules.specs.declared.Session.{Session};
 ghost use Rattle.rules.specs.Bytes.{part, splice, word};

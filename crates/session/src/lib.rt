@@ -1,4 +1,7 @@
 // The session: setters that several commands use, and the number of bytes of a chain.
+
+#![tactic(auto)]
+
 ghost use Rattle.std.specs.Prelude.{◌≡◌};
 ghost use Rattle.rules.specs.Session.{cleared, holding, with_challenge, with_job, chain_length};
 

@@ -1,4 +1,7 @@
 // Store: its objects and its keys (01, "What the host lends").
+
+#![tactic(auto)]
+
 ghost use Rattle.std.specs.Prelude.{◌≡◌, true, ℕ, ◌+◌, ◌≤◌, ◌<◌, length};
 ghost use Rattle.rules.specs.Bytes.{part};
 ghost use Rattle.rules.specs.Store.{capacity, object_of, slot_bytes, put_object, key_place, algorithm_of};

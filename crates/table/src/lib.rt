@@ -1,4 +1,7 @@
 // The table of 01: each slot's capacity, offset and tag. Its read conditions are in objects, which alone asks for them.
+
+#![tactic(auto)]
+
 ghost use Rattle.std.specs.Prelude.{◌≡◌, List, ℕ, ◌<◌};
 ghost use Rattle.rules.specs.Store.{capacity, offset, slot_named, takes};
 

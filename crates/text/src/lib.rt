@@ -1,4 +1,7 @@
 // Text: lines in hex, and the bytes that they stand for.
+
+#![tactic(auto)]
+
 ghost use Rattle.std.specs.Prelude.{◌≡◌, ◌+◌, ◌*◌, ◌≤◌, length, take};
 ghost use Rattle.rules.specs.Bytes.{splice};
 ghost use Rattle.text.specs.Text.{is_digit, digit_of, is_hex, bytes_of};

@@ -1,11 +1,14 @@
 // Unpacked: the session that 64 bytes are of.
+
+#![tactic(auto)]
+
 ghost use Rattle.std.specs.Prelude.{◌≡◌, ◌<◌, length};
 ghost use Rattle.unpacked.specs.Unpacked.{flag_at, chain_in, rest_in, challenge_in, job_in, unpacked, session_in};
 
 use rules::{Chain, Challenge, Job, Rest, Session};
 
 // The session that 64 bytes are of.
-#[derive(Drop)]
+#[derive(Clone, Copy)]
 pub enum Taken {
     Is(Session),
     No,

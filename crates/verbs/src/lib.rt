@@ -1,11 +1,14 @@
 // Verbs: the first words of a line of the program probe, and where the hex behind them begins.
+
+#![tactic(auto)]
+
 ghost use Rattle.std.specs.Prelude.{◌≡◌, ◌≤◌};
 ghost use Rattle.verbs.specs.Verbs.{buffer_at, is_figure, number_at, verb_of};
 ghost use Rattle.verbs.specs.Verbs.{starts as Verbs·starts, grown as Verbs·grown, put_of as Verbs·putOf, lend_of as Verbs·lendOf};
 
 use lines::What;
 
-#[derive(Drop)]
+#[derive(Clone, Copy)]
 pub enum Buffer {
     Store,
     Work,
@@ -13,21 +16,21 @@ pub enum Buffer {
 }
 
 // A buffer's name, and the place behind it.
-#[derive(Drop)]
+#[derive(Clone, Copy)]
 pub enum Named {
     Name(Buffer, usize),
     Nameless,
 }
 
 // A number, and the place behind it.
-#[derive(Drop)]
+#[derive(Clone, Copy)]
 pub enum Number {
     Count(usize, usize),
     Countless,
 }
 
 // What a line is for; with a call, the place where its hex begins.
-#[derive(Drop)]
+#[derive(Clone, Copy)]
 pub enum Verb {
     Lend(Buffer, usize),
     Put(Buffer, usize, usize),

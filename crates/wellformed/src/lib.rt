@@ -1,4 +1,7 @@
 // When a store is well formed (01, "What the host lends"): a function for each test of the book.
+
+#![tactic(auto)]
+
 ghost use Rattle.std.specs.Prelude.{◌≡◌, true, ◌+◌, ◌≤◌, ◌<◌, length, take, drop};
 ghost use Rattle.rules.specs.Bytes.{all_true, all, all_below, same_bytes, part};
 ghost use Rattle.rules.specs.Reference.{pin_form, reference_ok, reference_at};
