@@ -5,10 +5,11 @@
 
 mod hexlines;
 
-ghost use Rattle.std.specs.Prelude.{◌≤◌};
+ghost use Rattle.std.specs.Prelude.{◌≤◌, IfOk};
 
-use libc::{STDIN_FILENO, STDOUT_FILENO};
 use rules::Session;
+use std::io;
+use std::io::Read;
 
 // Where the input stands after a line. The line, if there is one, is the first n bytes of its buffer; of the bytes that are
 // read, those from `at` up to `end` come next, unless the input is over.
@@ -22,17 +23,23 @@ struct Line {
 }
 
 // So many bytes are read; none at the end of the input.
-fn read(given: &mut [u8; 4096]) -> usize
-    ensures { result ≤ 4096 }
+fn read(rt: &HostRuntime, given: &mut [u8; 4096]) -> io::Result<usize>
+    ensures { IfOk result (λ n. n ≤ 4096) }
 {
-    let got = libc::read(STDIN_FILENO, given);
-    io::count(got, given)
+    rt.stdin().read(given)
 }
 
 // A proved loop has to end, and nothing says that a line does: so its turns are counted, from a number that no run uses up.
-fn next(given: &mut [u8; 4096], line: &mut [u8; 1024], from: usize, to: usize, ended: bool) -> Line
+fn next(
+    rt: &HostRuntime,
+    given: &mut [u8; 4096],
+    line: &mut [u8; 1024],
+    from: usize,
+    to: usize,
+    ended: bool,
+) -> io::Result<Line>
     requires { to ≤ 4096 }
-    ensures { result.end ≤ 4096 }
+    ensures { IfOk result (λ l. l.end ≤ 4096) }
 {
     let mut n = 0;
     let mut at = from;
@@ -52,45 +59,47 @@ fn next(given: &mut [u8; 4096], line: &mut [u8; 1024], from: usize, to: usize, e
                 n = keeping::keep(line, n, b);
             }
         } else {
-            end = read(given);
+            end = read(rt, given)?;
             at = 0;
             over = end == 0;
             more = n > 0;
         }
     }
-    Line {
+    Ok(Line {
         n,
         at,
         end,
         more,
         over,
-    }
+    })
 }
 
 // The same of the lines: nothing says that they end.
 fn run(
+    rt: &HostRuntime,
     first: Session,
     store: &mut [u8; 33400],
     work: &mut [u8; 13321],
     resp: &mut [u8; 258],
     given: &mut [u8; 4096],
     line: &mut [u8; 1024],
-) {
+) -> io::Result<()> {
     let mut session = first;
-    let mut l = next(given, line, 0, 0, false);
+    let mut l = next(rt, given, line, 0, 0, false)?;
     let mut turns = u64::MAX;
     while turns > 0 && l.more {
         let mut out = [0u8; 1024];
         let text = lines::first(line, l.n);
         let said = hexlines::answer(session, store, work, resp, text, &mut out);
-        io::write_all(STDOUT_FILENO, lines::first(&out, said.len));
+        rt.write_all(lines::first(&out, said.len))?;
         session = said.session;
-        l = next(given, line, l.at, l.end, l.over);
+        l = next(rt, given, line, l.at, l.end, l.over)?;
         turns -= 1;
     }
+    Ok(())
 }
 
-fn main() {
+fn main(rt: HostRuntime) -> io::Result<()> {
     let mut store = [0u8; 33400];
     let mut work = [0u8; 13321];
     let mut resp = [0u8; 258];
@@ -99,11 +108,12 @@ fn main() {
     issued::fixed_card(&mut store);
     let reply = card::power_on(&store, &mut work, false);
     run(
+        &rt,
         reply.session,
         &mut store,
         &mut work,
         &mut resp,
         &mut given,
         &mut line,
-    );
+    )
 }

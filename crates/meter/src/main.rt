@@ -4,10 +4,11 @@
 
 #![tactic(auto)]
 
-ghost use Rattle.std.specs.Prelude.{◌≡◌, ◌≤◌, ◌<◌, length};
+ghost use Rattle.std.specs.Prelude.{◌≡◌, ◌≤◌, ◌<◌, length, IfOk};
 
-use libc::{STDIN_FILENO, STDOUT_FILENO};
 use rules::Session;
+use std::io;
+use std::io::Read;
 
 // The first two bytes of the response buffer count, in which a short answer has its status word.
 fn added(resp: &[u8], sum: u64) -> u64
@@ -103,13 +104,28 @@ fn issue(store: &mut [u8])
     octets::put(store, 28, &keys);
 }
 
-fn main() {
+// Reads until the buffer is full or the input ends, and says how many bytes it put at its start.
+fn fill(rt: &HostRuntime, buffer: &mut [u8; 65536]) -> io::Result<usize>
+    ensures { IfOk result (λ n. n ≤ 65536) }
+{
+    let mut done = 0;
+    while done < 65536 {
+        let n = rt.stdin().read(&mut buffer[done..])?;
+        if n == 0 {
+            return Ok(done);
+        }
+        done += n;
+    }
+    Ok(done)
+}
+
+fn main(rt: HostRuntime) -> io::Result<()> {
     let mut store = [0u8; 33400];
     let mut work = [0u8; 13321];
     let mut resp = [0u8; 258];
-    let mut script = io::large_buffer();
+    let mut script = [0u8; 65536];
     issue(&mut store);
-    let n = io::read_full(STDIN_FILENO, &mut script);
+    let n = fill(&rt, &mut script)?;
     let reply = card::power_on(&store, &mut work, false);
     let sum = run(
         reply.session,
@@ -118,6 +134,5 @@ fn main() {
         &mut resp,
         &script[..n],
     );
-    io::print_decimal(STDOUT_FILENO, sum);
-    io::write_all(STDOUT_FILENO, b"\n");
+    println!(rt; "{sum}")
 }

@@ -4,10 +4,11 @@
 
 #![tactic(auto)]
 
-ghost use Rattle.std.specs.Prelude.{◌≡◌, ◌≤◌, length};
+ghost use Rattle.std.specs.Prelude.{◌≡◌, ◌≤◌, length, IfOk};
 
-use libc::{STDIN_FILENO, STDOUT_FILENO};
 use rules::Session;
+use std::io;
+use std::io::Read;
 use verbs::{Buffer, Verb};
 
 // What a line is answered with: the session, and how much of each buffer is lent.
@@ -36,9 +37,16 @@ fn least(a: usize, b: usize) -> usize
     if a < b { a } else { b }
 }
 
-fn call(d: Desk, store: &mut [u8], work: &mut [u8], resp: &mut [u8], line: &[u8]) -> Desk
+fn call(
+    rt: &HostRuntime,
+    d: Desk,
+    store: &mut [u8],
+    work: &mut [u8],
+    resp: &mut [u8],
+    line: &[u8],
+) -> io::Result<Desk>
     requires { (d.store ≤ length store.old) × (d.work ≤ length work.old) × (d.resp ≤ length resp.old) × (length resp.old ≤ 1024) }
-    ensures { (result.store ≡ d.store) × (result.work ≡ d.work) × (result.resp ≡ d.resp) }
+    ensures { IfOk result (λ r. (r.store ≡ d.store) × (r.work ≡ d.work) × (r.resp ≡ d.resp)) }
 {
     let mut out = [0u8; 4096];
     let s = d.session;
@@ -54,30 +62,37 @@ fn call(d: Desk, store: &mut [u8], work: &mut [u8], resp: &mut [u8], line: &[u8]
         &mut out,
     );
     let n = least(said.len, 4096);
-    io::write_all(STDOUT_FILENO, &out[..n]);
+    rt.write_all(&out[..n])?;
     let next = said.session;
-    Desk {
+    Ok(Desk {
         session: next,
         store: a,
         work: b,
         resp: c,
-    }
+    })
 }
 
 // "ok" and as many bytes as the line gives, or "bad line" and as many as before.
-fn lend(buffer: &mut [u8], lent: usize, line: &[u8], from: usize) -> usize
+fn lend(
+    rt: &HostRuntime,
+    buffer: &mut [u8],
+    lent: usize,
+    line: &[u8],
+    from: usize,
+) -> io::Result<usize>
     requires { lent ≤ length buffer.old }
-    ensures { result ≤ length buffer.old }
+    ensures { IfOk result (λ n. n ≤ length buffer.old) }
 {
     if placing::place(buffer, line, 0, from) {
-        io::write_all(STDOUT_FILENO, b"ok\n");
-        return least(lines::after(line, from).len() / 2, buffer.len());
+        rt.write_all(b"ok\n")?;
+        return Ok(least(lines::after(line, from).len() / 2, buffer.len()));
     }
-    io::write_all(STDOUT_FILENO, b"bad line\n");
-    lent
+    rt.write_all(b"bad line\n")?;
+    Ok(lent)
 }
 
 fn lend_named(
+    rt: &HostRuntime,
     d: Desk,
     store: &mut [u8],
     work: &mut [u8],
@@ -85,56 +100,63 @@ fn lend_named(
     line: &[u8],
     b: Buffer,
     from: usize,
-) -> Desk
+) -> io::Result<Desk>
     requires { (d.store ≤ length store.old) × (d.work ≤ length work.old) × (d.resp ≤ length resp.old) }
-    ensures { (result.store ≤ length store.old) × (result.work ≤ length work.old) × (result.resp ≤ length resp.old) }
+    ensures { IfOk result (λ r. (r.store ≤ length store.old) × (r.work ≤ length work.old) × (r.resp ≤ length resp.old)) }
 {
     let mut next = d;
     match b {
         Buffer::Store => {
-            next.store = lend(store, d.store, line, from);
-            next
+            next.store = lend(rt, store, d.store, line, from)?;
+            Ok(next)
         }
         Buffer::Work => {
-            next.work = lend(work, d.work, line, from);
-            next
+            next.work = lend(rt, work, d.work, line, from)?;
+            Ok(next)
         }
         Buffer::Resp => {
-            next.resp = lend(resp, d.resp, line, from);
-            next
+            next.resp = lend(rt, resp, d.resp, line, from)?;
+            Ok(next)
         }
     }
 }
 
-fn answer(d: Desk, store: &mut [u8], work: &mut [u8], resp: &mut [u8], line: &[u8]) -> Desk
+fn answer(
+    rt: &HostRuntime,
+    d: Desk,
+    store: &mut [u8],
+    work: &mut [u8],
+    resp: &mut [u8],
+    line: &[u8],
+) -> io::Result<Desk>
     requires { (d.store ≤ length store.old) × (d.work ≤ length work.old) × (d.resp ≤ length resp.old) × (length resp.old ≤ 1024) }
-    ensures { (result.store ≤ length store.old) × (result.work ≤ length work.old) × (result.resp ≤ length resp.old) }
+    ensures { IfOk result (λ r. (r.store ≤ length store.old) × (r.work ≤ length work.old) × (r.resp ≤ length resp.old)) }
 {
     let v = verbs::verb_of(line);
     if let Verb::Lend(b, from) = v {
-        return lend_named(d, store, work, resp, line, b, from);
+        return lend_named(rt, d, store, work, resp, line, b, from);
     }
-    call(d, store, work, resp, line)
+    call(rt, d, store, work, resp, line)
 }
 
 // So many bytes are read; none at the end of the input.
-fn read(given: &mut [u8; 4096]) -> usize
-    ensures { result ≤ 4096 }
+fn read(rt: &HostRuntime, given: &mut [u8; 4096]) -> io::Result<usize>
+    ensures { IfOk result (λ n. n ≤ 4096) }
 {
-    let got = libc::read(STDIN_FILENO, given);
-    io::count(got, given)
+    rt.stdin().read(given)
 }
 
 // A proved loop has to end, and nothing says that a line does: so its turns are counted, from a number that no run uses up.
 fn next(
+    rt: &HostRuntime,
     given: &mut [u8; 4096],
     line: &mut [u8; 100000],
     from: usize,
     to: usize,
     ended: bool,
-) -> Line
+) -> io::Result<Line>
     requires { to ≤ 4096 }
-    ensures { result.end ≤ 4096 }
+    ensures { IfOk result (λ l. l.end ≤ 4096) }
 {
     let mut n = 0;
     let mut at = from;
@@ -154,40 +176,42 @@ fn next(
                 n = keeping::keep(line, n, b);
             }
         } else {
-            end = read(given);
+            end = read(rt, given)?;
             at = 0;
             over = end == 0;
             more = n > 0;
         }
     }
-    Line {
+    Ok(Line {
         n,
         at,
         end,
         more,
         over,
-    }
+    })
 }
 
 // The same of the lines: nothing says that they end.
 fn run(
+    rt: &HostRuntime,
     first: Desk,
     store: &mut [u8; 40000],
     work: &mut [u8; 20000],
     resp: &mut [u8; 1024],
     given: &mut [u8; 4096],
     line: &mut [u8; 100000],
-)
+) -> io::Result<()>
     requires { (first.store ≤ 40000) × (first.work ≤ 20000) × (first.resp ≤ 1024) }
 {
     let mut desk = first;
-    let mut l = next(given, line, 0, 0, false);
+    let mut l = next(rt, given, line, 0, 0, false)?;
     let mut turns = u64::MAX;
     while turns > 0 && l.more {
-        desk = answer(desk, store, work, resp, lines::first(line, l.n));
-        l = next(given, line, l.at, l.end, l.over);
+        desk = answer(rt, desk, store, work, resp, lines::first(line, l.n))?;
+        l = next(rt, given, line, l.at, l.end, l.over)?;
         turns -= 1;
     }
+    Ok(())
 }
 
 // 01's fixed card at the start of the buffer.
@@ -197,7 +221,7 @@ fn start(store: &mut [u8])
     issued::fixed_card(&mut store[..33400]);
 }
 
-fn main() {
+fn main(rt: HostRuntime) -> io::Result<()> {
     let mut store = [0u8; 40000];
     let mut work = [0u8; 20000];
     let mut resp = [0u8; 1024];
@@ -211,5 +235,7 @@ fn main() {
         work: 13321,
         resp: 258,
     };
-    run(d, &mut store, &mut work, &mut resp, &mut given, &mut line);
+    run(
+        &rt, d, &mut store, &mut work, &mut resp, &mut given, &mut line,
+    )
 }

@@ -1,0 +1,12 @@
+-- `tries::restore_puk` meets its contract: the tries left are restored in the PUK's ten bytes, which are lent.
+-- Assumes nothing.
+use native.Mathlib.Omega.{arith}
+use Rattle.rules.specs.Bytes.{part}
+use Rattle.rules.specs.Command.{the_puk}
+use Rattle.reference.proofs.Lent.{restore-back}
+use Rattle.pin.proofs.tries.restore_puk.Goals as goal
+
+pub returns : goal.returns
+unfolding part
+returns c =
+    restore-back c.args.store.now the_puk (omega arith) _ c.restore.ensures

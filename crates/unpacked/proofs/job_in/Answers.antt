@@ -1,0 +1,18 @@
+-- Its mark, and its fields.
+-- Assumes nothing.
+use mathlib.Core.Path.{sym, ap, ◌∙◌}
+use lib.ListN.{get_or}
+use Rattle.rules.specs.declared.Job.TheVariants.{Running}
+use Rattle.rules.proofs.Tests.{on, off}
+use Rattle.unpacked.specs.Unpacked.{job_in}
+use Rattle.unpacked.proofs.job_in.Goals as goal
+
+pub returns-then-flag_at : goal.returns-then-flag_at
+unfolding job_in
+returns-then-flag_at c =
+    let b = c.args.b.now in
+    ap (Running (get_or b 24 0) (get_or b 25 0)) c.be16.ensures ∙ sym (on _ _ _ (sym c.flag_at.ensures ∙ c.if-flag_at.true))
+
+pub returns : goal.returns
+unfolding job_in
+returns c = sym (off _ _ _ (sym c.flag_at.ensures ∙ c.if-flag_at.false))
