@@ -28,7 +28,7 @@ pub rule-requires : goal.rule-requires
 rule-requires c =
     let a = c.args in
     let h = calm-held a.session _ c.with_challenge-s.ensures c.requires.2 in
-    let s = shaped a.cmd.now (λ c. (c.type_inv.cmd c).ranges) a.session.contactless _ (sym c.check.ensures ∙ c.in-Passed.is) in
+    let s = shaped a.cmd.now (λ i. (c.type_inv.cmd i).fits) a.session.contactless _ (sym c.check.ensures ∙ c.in-Passed.is) in
     (s.le, c.requires.0, c.requires.1, h.rest, h.few, field-few a.cmd.now _ _ s c.field.ensures, c.requires.3)
 
 pub returns-in-Failed : goal.returns-in-Failed

@@ -1,0 +1,9 @@
+-- What is read fits its buffer.
+use Rattle.std.proofs.Common.{◌-◌, ◌≤◌}
+use Rattle.meter.proofs.fill.Given as goal
+
+abbrev pub invariant-loop-done : goal.invariant-loop-done
+invariant-loop-done l = l.done ≤ 65536
+
+abbrev pub decreases-loop-done : goal.decreases-loop-done
+decreases-loop-done l = 65536 - l.done
