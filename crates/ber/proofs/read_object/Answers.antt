@@ -27,13 +27,13 @@ unfolding value_from
 returns-in_default c =
     let value : object_at c.args.s.now c.args.at c.args.tag ≡ value_from c.args.s.now c.read_length.result = tagged c.args.s.now c.args.at c.args.tag c.if-s-at.false c.if-s-at-2.false
     ∙ ap (value_from c.args.s.now) (sym c.read_length.ensures) in
-     sym (value ∙ ap (value_from _) c.in_default.is)
+    sym (value ∙ ap (value_from _) c.in_default.is)
 
 pub overflow_sub-s : goal.overflow_sub-s
 overflow_sub-s c =
     let inside : c.in-Is.next ≤ length c.args.s.now = let r = read_is c.args.s.now (c.args.at + 1) c.in-Is.len c.in-Is.next (sym c.read_length.ensures ∙ c.in-Is.is) in
     omega (arith, r.fits, r.ends) in
-     inside
+    inside
 
 pub returns-then-s-next : goal.returns-then-s-next
 unfolding value_from

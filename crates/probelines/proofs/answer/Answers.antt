@@ -16,6 +16,11 @@ use Rattle.unpacked.specs.declared.Taken.{Taken}
 use Rattle.probelines.specs.ProbeLines.{asks, session_at, taken, by_verb, answered}
 use Rattle.probelines.proofs.answer.Goals as goal
 
+-- what the line comes to, once its verb is known
+by : (st : State) (p l out : List ℕ) (r v : Verb) → r ≡ verb_of l → r ≡ v → by_verb st p l out v ≡ answered st p l out
+unfolding answered
+by st p l out r v e g = ap (by_verb st p l out) (sym g ∙ e)
+
 again : (st : State) (p out : List ℕ) (w : What) {d e : List ℕ} → d ≡ e → asks st p w d out ≡ asks st p w e out
 again st p out w e = ap (λ (d : List ℕ). asks st p w d out) e
 
@@ -31,44 +36,31 @@ neither st p l out Other h = refl
 
 pub returns-in-Put : goal.returns-in-Put
 unfolding by_verb
-unfolding answered
-returns-in-Put c =
-    let by : {r c : Verb} → r ≡ verb_of c.args.line.now → r ≡ c
-    → by_verb ((state c.args.store.now c.args.work.now c.args.session)) c.args.resp.now c.args.line.now c.args.out.now c ≡ answered ((state c.args.store.now c.args.work.now c.args.session)) c.args.resp.now c.args.line.now c.args.out.now = λ e g. ap (by_verb ((state c.args.store.now c.args.work.now c.args.session)) c.args.resp.now c.args.line.now c.args.out.now) (sym g ∙ e) in
-    c.put.ensures ∙ by c.verb_of.ensures c.in-Put.is
+returns-in-Put c = c.put.ensures ∙ by _ _ _ _ c.verb_of.result _ c.verb_of.ensures c.in-Put.is
 
 pub returns-in-Session : goal.returns-in-Session
 unfolding by_verb
-unfolding answered
 returns-in-Session c =
-    let by : {r c : Verb} → r ≡ verb_of c.args.line.now → r ≡ c
-    → by_verb ((state c.args.store.now c.args.work.now c.args.session)) c.args.resp.now c.args.line.now c.args.out.now c ≡ answered ((state c.args.store.now c.args.work.now c.args.session)) c.args.resp.now c.args.line.now c.args.out.now = λ e g. ap (by_verb ((state c.args.store.now c.args.work.now c.args.session)) c.args.resp.now c.args.line.now c.args.out.now) (sym g ∙ e) in
-    c.take.ensures c.args.store.now c.args.work.now c.args.resp.now
-    ∙ ap (λ (t : Taken). taken ((state c.args.store.now c.args.work.now c.args.session)) c.args.resp.now t c.args.out.now) (c.session_at.ensures ∙ ap session_at c.after.ensures)
-    ∙ by c.verb_of.ensures c.in-Session.is
+    let a = c.args in
+    c.take.ensures a.store.now a.work.now a.resp.now
+    ∙ ap (λ (t : Taken). taken (state a.store.now a.work.now a.session) a.resp.now t a.out.now) (c.session_at.ensures ∙ ap session_at c.after.ensures)
+    ∙ by _ _ _ _ c.verb_of.result _ c.verb_of.ensures c.in-Session.is
 
 pub returns-in-PowerOn : goal.returns-in-PowerOn
 unfolding by_verb
-unfolding answered
-returns-in-PowerOn c =
-    let by : {r c : Verb} → r ≡ verb_of c.args.line.now → r ≡ c
-    → by_verb ((state c.args.store.now c.args.work.now c.args.session)) c.args.resp.now c.args.line.now c.args.out.now c ≡ answered ((state c.args.store.now c.args.work.now c.args.session)) c.args.resp.now c.args.line.now c.args.out.now = λ e g. ap (by_verb ((state c.args.store.now c.args.work.now c.args.session)) c.args.resp.now c.args.line.now c.args.out.now) (sym g ∙ e) in
-    c.power_on.ensures c.args.session ∙ by c.verb_of.ensures c.in-PowerOn.is
+returns-in-PowerOn c = c.power_on.ensures c.args.session ∙ by _ _ _ _ c.verb_of.result _ c.verb_of.ensures c.in-PowerOn.is
 
 pub returns-in-Ask : goal.returns-in-Ask
 unfolding by_verb
-unfolding answered
 returns-in-Ask c =
-    let by : {r c : Verb} → r ≡ verb_of c.args.line.now → r ≡ c
-    → by_verb ((state c.args.store.now c.args.work.now c.args.session)) c.args.resp.now c.args.line.now c.args.out.now c ≡ answered ((state c.args.store.now c.args.work.now c.args.session)) c.args.resp.now c.args.line.now c.args.out.now = λ e g. ap (by_verb ((state c.args.store.now c.args.work.now c.args.session)) c.args.resp.now c.args.line.now c.args.out.now) (sym g ∙ e) in
-    c.ask.ensures ∙ again ((state c.args.store.now c.args.work.now c.args.session)) c.args.resp.now c.args.out.now _ c.after-in-Ask.ensures
-    ∙ by c.verb_of.ensures c.in-Ask.is
+    let a = c.args in
+    c.ask.ensures ∙ again (state a.store.now a.work.now a.session) a.resp.now a.out.now _ c.after-in-Ask.ensures
+    ∙ by _ _ _ _ c.verb_of.result _ c.verb_of.ensures c.in-Ask.is
 
 pub returns-in-Lend : goal.returns-in-Lend
-unfolding answered
 returns-in-Lend c =
-    let by : {r c : Verb} → r ≡ verb_of c.args.line.now → r ≡ c
-    → by_verb ((state c.args.store.now c.args.work.now c.args.session)) c.args.resp.now c.args.line.now c.args.out.now c ≡ answered ((state c.args.store.now c.args.work.now c.args.session)) c.args.resp.now c.args.line.now c.args.out.now = λ e g. ap (by_verb ((state c.args.store.now c.args.work.now c.args.session)) c.args.resp.now c.args.line.now c.args.out.now) (sym g ∙ e) in
-    c.bad.ensures c.args.store.now c.args.work.now c.args.resp.now
-    ∙ neither ((state c.args.store.now c.args.work.now c.args.session)) c.args.resp.now c.args.line.now c.args.out.now c.verb_of.result c.in-Lend.keys5
-    ∙ by c.verb_of.ensures refl
+    let a = c.args in
+    let st : State = state a.store.now a.work.now a.session in
+    c.bad.ensures a.store.now a.work.now a.resp.now
+    ∙ neither st a.resp.now a.line.now a.out.now c.verb_of.result c.in-Lend.in-Lend-own.keys5
+    ∙ by st a.resp.now a.line.now a.out.now c.verb_of.result _ c.verb_of.ensures refl

@@ -1,6 +1,5 @@
 -- `reader::place_after` meets its contract: where an object is read its end lies in the slice.
 -- Assumes nothing.
--- an object was read
 use mathlib.Core.Path.{◌≡◌, sym, ap, ◌∙◌}
 use native.Mathlib.Omega.{arith}
 use Rattle.rules.specs.declared.Found.TheVariants.{Value}
@@ -9,6 +8,7 @@ use Rattle.ber.proofs.Laws.{object-inside}
 use Rattle.reader.specs.Read.{after}
 use Rattle.reader.proofs.place_after.Goals as goal
 
+-- an object was read
 pub returns-in_default : goal.returns-in_default
 returns-in_default c = let a = c.args in
     sym (ap (after a.s.now) (sym c.read_object.ensures ∙ c.in_default.is))
@@ -24,4 +24,4 @@ pub returns : goal.returns
 returns c =
     let object : let a = c.args in
     object_at a.s.now a.at a.tag ≡ Value c.in-Value.from c.in-Value.len = sym c.read_object.ensures ∙ c.in-Value.is in
-     sym (ap (after c.args.s.now) (object))
+    sym (ap (after c.args.s.now) (object))

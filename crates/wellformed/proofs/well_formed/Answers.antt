@@ -18,7 +18,7 @@ pub returns-then-not-head_ok : goal.returns-then-not-head_ok
 unfolding well_formed store_tests
 returns-then-not-head_ok c =
     let sized : well_formed c.args.store.now ≡ (all_true (take 5 (drop 1 (store_tests c.args.store.now))) && all_true (drop 6 (store_tests c.args.store.now))) = and_on _ _ (eq-eqb _ _ c.if-store-ne33400.false) ∙ all_split (take 5 (drop 1 (store_tests c.args.store.now))) (drop 6 (store_tests c.args.store.now)) in
-     sym (sized ∙ and_off_left _ _ (fails c.head_ok.ensures c.if-not-head_ok.true-raw))
+    sym (sized ∙ and_off_left _ _ (fails c.head_ok.ensures c.if-not-head_ok.true-raw))
 
 pub returns : goal.returns
 unfolding store_tests well_formed

@@ -20,7 +20,7 @@ unfolding the
 part-requires c =
     let long : length c.args.field.now ≡ 16 = two_sixteen puk_form puk_form c.args.field.now c.two_values-formed.ensures
     (equal_formed (the (refs_in c.args.store.now c.args.given) the_puk) _ c.args.field.now (c.compare_puk.ensures c.args.given).0 c.in-Equal.is) in
-     omega (arith, long)
+    omega (arith, long)
 
 pub new_puk-requires : goal.new_puk-requires
 unfolding the
