@@ -27,7 +27,7 @@ use Rattle.rules.specs.Book.{book}
 use Rattle.rules.specs.Store.{well_formed}
 use Rattle.rules.specs.Claims.Starred.{fixed}
 use Rattle.rules.specs.Session.{State, state}
-use Rattle.rules.specs.Calls.{Outcome, outcome, reply}
+use Rattle.rules.specs.Calls.{Outcome, outcome}
 use Rattle.rules.specs.Claims.NoSecond.{Shows}
 use Rattle.rules.proofs.NoSecond.{no_second}
 use Rattle.rules.proofs.Cards.{fixed-well}

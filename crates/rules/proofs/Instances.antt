@@ -27,7 +27,7 @@ use Rattle.rules.specs.Command.{field_of, check, Wrote, nothing, in_slot}
 use Rattle.rules.specs.Keys.{result_fits, finished}
 use Rattle.rules.specs.Calls.{command, Call, powers, sends, ill_session, short_response, interrupts, unasked, wrong_result, permit, Result, delivered, powered_on, granted, kept_session, denied, decided, call}
 use Rattle.rules.specs.Runs.{leaves, run, end_of}
-use Rattle.rules.specs.Claims.Starred.{hex, issued, store_of, fixed_card, fixed, tell, done, wrong, right, printed, asks, makes, reply, first, last}
+use Rattle.rules.specs.Claims.Starred.{hex, store_of, fixed_card, fixed, tell, done, wrong, right, printed, asks, makes, reply, first, last}
 use Rattle.rules.specs.Claims.Words.{check_words, words, Tells}
 use Rattle.rules.specs.Claims.Invariants.{Plain, Sane}
 use Rattle.rules.specs.Claims.Working.{ledger}

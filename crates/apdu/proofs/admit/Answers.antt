@@ -1,7 +1,7 @@
 -- Checks 2 to 5, in their order.
 -- Assumes nothing.
 use mathlib.Core.Path.{sym, ◌∙◌}
-use Rattle.rules.specs.Command.{known, admit}
+use Rattle.rules.specs.Command.{admit}
 use Rattle.rules.proofs.Tests.{on, off, negated}
 use Rattle.apdu.proofs.admit.Goals as goal
 

@@ -1,7 +1,7 @@
 -- Check 1, then checks 2 to 5.
 -- Assumes nothing.
 use mathlib.Core.Path.{ap, sym, ◌∙◌}
-use Rattle.rules.specs.Command.{admit, admitted, check}
+use Rattle.rules.specs.Command.{admitted, check}
 use Rattle.apdu.proofs.check.Goals as goal
 
 pub returns-in-Failed : goal.returns-in-Failed

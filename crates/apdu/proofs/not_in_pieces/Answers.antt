@@ -3,7 +3,6 @@
 use mathlib.Core.Path.{ap, sym}
 use mathlib.Core.Bool.{not}
 use borrow.Author.Tests.{eq-eqb, ne_eqb}
-use Rattle.rules.specs.Command.{chains}
 use Rattle.rules.proofs.Tests.{and_off_left}
 use Rattle.apdu.proofs.not_in_pieces.Goals as goal
 

@@ -9,7 +9,7 @@ use Rattle.rules.specs.declared.Session.{Session}
 use Rattle.rules.specs.Session.{state}
 use Rattle.rules.specs.Command.{says}
 use Rattle.rules.specs.Held.{dropped}
-use Rattle.rules.specs.Calls.{outcome, delivered, ruled}
+use Rattle.rules.specs.Calls.{delivered, ruled}
 use Rattle.saying.proofs.Laws.{delivers}
 use Rattle.card.proofs.Obeyed.{calm-held, obeyed-failed, obeyed-passed, field-few}
 use Rattle.card.proofs.obey.Goals as goal

@@ -3,7 +3,7 @@
 use mathlib.Core.Path.{ap, ◌∙◌}
 use Rattle.rules.specs.Session.{State}
 use Rattle.rules.specs.Objects.{select}
-use Rattle.rules.specs.Calls.{outcome, delivered}
+use Rattle.rules.specs.Calls.{delivered}
 use Rattle.card.proofs.select.Goals as goal
 
 pub returns : goal.returns

@@ -5,7 +5,7 @@ use mathlib.Core.List.{List}
 use Prim.Native.Nat.{ℕ}
 use Rattle.rules.specs.declared.Session.{Session}
 use Rattle.rules.specs.Bytes.{splice, zeroed, zeros}
-use Rattle.rules.specs.Session.{state, holding}
+use Rattle.rules.specs.Session.{state}
 use Rattle.rules.specs.Held.{dropped}
 use Rattle.held.proofs.drop_held.Goals as goal
 

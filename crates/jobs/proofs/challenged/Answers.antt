@@ -11,7 +11,7 @@ use Rattle.rules.specs.Ber.{tlv}
 use Rattle.rules.specs.Session.{state, with_challenge}
 use Rattle.rules.specs.Held.{send}
 use Rattle.rules.specs.Keys.{challenged}
-use Rattle.rules.specs.Calls.{delivered, outcome}
+use Rattle.rules.specs.Calls.{delivered}
 use Rattle.saying.proofs.Laws.{replies, length_of_part}
 use Rattle.jobs.proofs.challenged.Goals as goal
 

@@ -7,7 +7,7 @@ use native.Mathlib.Omega.{arith}
 use lib.Seq.{length-take-le}
 use Rattle.rules.specs.Session.{state}
 use Rattle.rules.specs.Held.{send}
-use Rattle.rules.specs.Calls.{delivered, outcome}
+use Rattle.rules.specs.Calls.{delivered}
 use Rattle.jobs.proofs.give.Goals as goal
 
 pub slice_bounds-send-end : goal.slice_bounds-send-end

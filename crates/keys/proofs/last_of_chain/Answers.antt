@@ -8,7 +8,7 @@ use lib.ListN.{length}
 use Rattle.rules.specs.Bytes.{part, splice, zeros, zeroed}
 use Rattle.rules.specs.Session.{state}
 use Rattle.rules.specs.Keys.{auth_whole}
-use Rattle.rules.specs.Calls.{delivered, outcome}
+use Rattle.rules.specs.Calls.{delivered}
 use Rattle.saying.proofs.Laws.{replies}
 use Rattle.held.proofs.Laws.{gathered-part, zero_over}
 use Rattle.keys.proofs.last_of_chain.Goals as goal

@@ -4,7 +4,7 @@ use mathlib.Core.Path.{ap, ◌∙◌}
 use native.Mathlib.Omega.{arith}
 use Rattle.rules.specs.Session.{State, state}
 use Rattle.rules.specs.Command.{says}
-use Rattle.rules.specs.Calls.{delivered, outcome}
+use Rattle.rules.specs.Calls.{delivered}
 use Rattle.saying.proofs.Laws.{delivers}
 use Rattle.keys.proofs.Laws.{piece_total, piece-refused, piece-held, piece-whole}
 use Rattle.keys.proofs.piece.Goals as goal

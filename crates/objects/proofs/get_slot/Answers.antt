@@ -6,7 +6,7 @@ use Prim.Native.Nat.{ℕ}
 use native.Mathlib.Omega.{arith}
 use Rattle.rules.specs.Session.{state}
 use Rattle.rules.specs.Objects.{give_object}
-use Rattle.rules.specs.Calls.{delivered, outcome}
+use Rattle.rules.specs.Calls.{delivered}
 use Rattle.rules.proofs.Tests.{negated}
 use Rattle.saying.proofs.Laws.{delivers}
 use Rattle.objects.proofs.Laws.{slot_unknown, slot-barred, slot-given, object_short}

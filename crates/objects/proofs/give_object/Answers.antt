@@ -8,7 +8,7 @@ use lib.ListN.{length}
 use Rattle.rules.specs.Ber.{tlv, ber_length}
 use Rattle.rules.specs.Session.{state}
 use Rattle.rules.specs.Held.{send}
-use Rattle.rules.specs.Calls.{delivered, outcome}
+use Rattle.rules.specs.Calls.{delivered}
 use Rattle.saying.proofs.Laws.{replies, delivers}
 use Rattle.heads.proofs.Laws.{head_written}
 use Rattle.objects.proofs.Laws.{give-none, give_some}

@@ -1,7 +1,6 @@
 -- `parts::same` meets its contract. The loop's invariant: the rows are the same where their rests from i on are.
 -- Assumes nothing.
 use mathlib.Core.Path.{refl, sym, ◌∙◌}
-use Prim.Native.Nat.{◌-◌}
 use native.Mathlib.Omega.{arith}
 use borrow.Author.Rules.{rules}
 use Rattle.parts.proofs.Laws.{same_on, same_off, same_end, other_length}

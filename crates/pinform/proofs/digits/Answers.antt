@@ -1,7 +1,6 @@
 -- `pinform::digits` meets its contract: its loop tests the row.
 -- Assumes nothing.
 use mathlib.Core.Path.{refl}
-use Prim.Native.Nat.{◌-◌}
 use borrow.Author.Rules.{rules}
 use Rattle.rules.specs.Reference.{digit}
 use Rattle.rules.proofs.Tests.{passes, fails}

@@ -6,8 +6,7 @@ use Prim.Native.Nat.{ℕ}
 use native.Mathlib.Omega.{arith}
 use lib.ListN.{length}
 use borrow.Author.Tests.{le-leb}
-use Rattle.rules.specs.Bytes.{part, splice, word}
-use Rattle.rules.specs.Session.{holding}
+use Rattle.rules.specs.Bytes.{splice, word}
 use Rattle.rules.specs.Held.{fetch}
 use Rattle.rules.proofs.Tests.{on}
 use Rattle.saying.proofs.Laws.{delivers, same_outcome, length_of_part}

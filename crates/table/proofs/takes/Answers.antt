@@ -3,7 +3,7 @@
 use mathlib.Core.Path.{ap}
 use Prim.Native.Nat.{ℕ}
 use lib.Dec.{leb}
-use Rattle.rules.specs.Store.{capacity, takes}
+use Rattle.rules.specs.Store.{takes}
 use Rattle.table.proofs.takes.Goals as goal
 
 pub returns : goal.returns

@@ -1,7 +1,7 @@
 -- `text::is_hex` meets its contract: an even length, and a loop that tests the row.
 -- Assumes nothing.
 use mathlib.Core.Path.{refl, sym}
-use Prim.Native.Nat.{◌-◌, ◌%◌}
+use Prim.Native.Nat.{◌%◌}
 use lib.Dec.{eqb}
 use lib.ListN.{length}
 use borrow.Author.Tests.{eq-eqb, ne_eqb}

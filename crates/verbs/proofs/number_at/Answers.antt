@@ -1,7 +1,7 @@
 -- The loop's invariant: the number is the one read on from i with v so far.
 -- Assumes nothing.
 use mathlib.Core.Path.{sym, ap, ◌∙◌}
-use Prim.Native.Nat.{ℕ, ◌+◌, ◌-◌}
+use Prim.Native.Nat.{ℕ, ◌+◌}
 use lib.ListN.{drop, get_or}
 use borrow.Author.Tests.{lt-leb, le-leb, eq-eqb, ne_eqb}
 use Rattle.rules.proofs.Tests.{on, off, passes, fails}

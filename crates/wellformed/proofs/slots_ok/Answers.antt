@@ -1,8 +1,6 @@
 -- `wellformed::slots_ok` meets its contract. The loop's invariant: the slots passed are in order.
 -- Assumes nothing.
 use mathlib.Core.Path.{◌≡◌, refl, sym, ap, ◌∙◌}
-use mathlib.Core.Bool.{true}
-use Prim.Native.Nat.{◌-◌}
 use native.Mathlib.Omega.{arith}
 use borrow.Author.Rules.{rules}
 use Rattle.rules.specs.Bytes.{all_below}

@@ -1,7 +1,6 @@
 -- The loop's invariant: the sum is that of the rest from i on, carried on from h.
 -- Assumes nothing.
 use mathlib.Core.Path.{refl, ◌∙◌}
-use Prim.Native.Nat.{◌-◌}
 use Rattle.outcomes.proofs.Digits.{sum_at, sum_end}
 use native.Mathlib.Omega.{arith}
 use Rattle.outcomes.proofs.sums.sum.Goals as goal
