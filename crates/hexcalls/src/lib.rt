@@ -5,8 +5,7 @@
 
 ghost use Rattle.std.specs.Prelude.{◌≡◌, ◌/◌, min};
 ghost use Rattle.rules.specs.Session.{state};
-ghost use Rattle.rules.specs.Calls.{outcome};
-ghost use Rattle.rules.specs.Calls.{call as Calls·call};
+ghost use Rattle.rules.specs.Calls.{outcome, call};
 ghost use Rattle.lines.specs.Asked.{asked};
 ghost use Rattle.text.specs.Text.{bytes_of};
 
@@ -32,7 +31,7 @@ fn make(
     what: What,
     bytes: &[u8],
 ) -> Reply
-    ensures { outcome result store.new work.new resp.new ≡ (Calls·call (state store.old work.old session) (asked what resp.old bytes.now)).outcome }
+    ensures { outcome result store.new work.new resp.new ≡ (call (state store.old work.old session) (asked what resp.old bytes.now)).outcome }
 {
     match what {
         What::Command => card::command(session, store, work, resp, bytes),
@@ -49,7 +48,7 @@ pub fn call(
     what: What,
     digits: &[u8],
 ) -> Reply
-    ensures { outcome result store.new work.new resp.new ≡ (Calls·call (state store.old work.old session) (asked what resp.old (bytes_of digits.now))).outcome }
+    ensures { outcome result store.new work.new resp.new ≡ (call (state store.old work.old session) (asked what resp.old (bytes_of digits.now))).outcome }
 {
     let mut bytes = [0u8; 262];
     let n = read_of(digits.len());

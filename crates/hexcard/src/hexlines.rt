@@ -6,8 +6,7 @@ ghost use Rattle.rules.specs.Calls.{outcome};
 ghost use Rattle.lines.specs.Seen.{seen};
 ghost use Rattle.text.specs.Text.{bytes_of};
 ghost use Rattle.printing.specs.Printing.{hex_of};
-ghost use Rattle.hexcard.specs.HexLines.{is_command, closed, answered};
-ghost use Rattle.hexcard.specs.HexLines.{shown as HexLines·shown, turn as HexLines·turn};
+ghost use Rattle.hexcard.specs.HexLines.{is_command, closed, answered, shown, turn};
 
 use lines::{Said, What};
 use rules::{Answer, Reply, Session};
@@ -39,7 +38,7 @@ fn close(r: Reply, store: &mut [u8], work: &mut [u8], resp: &mut [u8]) -> Reply
 }
 
 fn turn(session: Session, store: &mut [u8], work: &mut [u8], resp: &mut [u8], line: &[u8]) -> Reply
-    ensures { outcome result store.new work.new resp.new ≡ HexLines·turn (state store.old work.old session) resp.old (bytes_of line.now) }
+    ensures { outcome result store.new work.new resp.new ≡ turn (state store.old work.old session) resp.old (bytes_of line.now) }
 {
     let r = hexcalls::call(session, store, work, resp, What::Command, line);
     close(r, store, work, resp)
@@ -47,7 +46,7 @@ fn turn(session: Session, store: &mut [u8], work: &mut [u8], resp: &mut [u8], li
 
 // How many bytes of the response buffer are printed.
 fn shown(a: Answer) -> usize
-    ensures { result ≡ HexLines·shown a }
+    ensures { result ≡ shown a }
 {
     match a {
         Answer::PoweredOn => 0,
@@ -63,7 +62,7 @@ fn shown(a: Answer) -> usize
 
 fn print(a: Answer, resp: &[u8], out: &mut [u8]) -> usize
     requires { 2 * length resp.now + 1 ≤ length out.old }
-    ensures { (result ≡ length (hex_of (take (HexLines·shown a) resp.now) ++ (10 ∷ []))) × (out.new ≡ splice out.old 0 (hex_of (take (HexLines·shown a) resp.now) ++ (10 ∷ []))) }
+    ensures { (result ≡ length (hex_of (take (shown a) resp.now) ++ (10 ∷ []))) × (out.new ≡ splice out.old 0 (hex_of (take (shown a) resp.now) ++ (10 ∷ []))) }
 {
     let end = printing::write_hex(out, 0, lines::first(resp, shown(a)));
     octets::put_byte(out, end, 10);

@@ -4,8 +4,7 @@
 
 ghost use Rattle.std.specs.Prelude.{◌≡◌, ◌&&◌, ◌≤◌, length};
 ghost use Rattle.text.specs.Text.{is_digit};
-ghost use Rattle.keeping.specs.Keeping.{kept};
-ghost use Rattle.keeping.specs.Keeping.{keep as Keeping·keep};
+ghost use Rattle.keeping.specs.Keeping.{kept, keep};
 
 fn both_digits(a: u8, b: u8) -> bool
     ensures { result ≡ (is_digit a && is_digit b) }
@@ -17,7 +16,7 @@ fn both_digits(a: u8, b: u8) -> bool
 // The line whose first n bytes are kept in the buffer, with one byte more.
 pub fn keep(line: &mut [u8], n: usize, b: u8) -> usize
     requires { (n ≤ length line.old) × (1 ≤ length line.old) }
-    ensures { kept result line.new ≡ Keeping·keep line.old n b }
+    ensures { kept result line.new ≡ keep line.old n b }
 {
     if n < line.len() {
         octets::put_byte(line, n, b);

@@ -3,13 +3,12 @@
 #![tactic(auto)]
 
 ghost use Rattle.std.specs.Prelude.{◌≡◌, length};
-ghost use Rattle.packed.specs.Packed.{flag_bytes, chain_bytes, rest_bytes, challenge_bytes, job_bytes, packed};
-ghost use Rattle.packed.specs.Packed.{flag as Packed·flag};
+ghost use Rattle.packed.specs.Packed.{flag_bytes, chain_bytes, rest_bytes, challenge_bytes, job_bytes, packed, flag};
 
 use rules::{Chain, Challenge, Job, Rest, Session};
 
 fn flag(b: bool) -> u8
-    ensures { result ≡ Packed·flag b }
+    ensures { result ≡ flag b }
 {
     if b {
         return 1;

@@ -3,12 +3,11 @@
 #![tactic(auto)]
 
 ghost use Rattle.std.specs.Prelude.{◌≡◌};
-ghost use Rattle.placing.specs.Placing.{placed};
-ghost use Rattle.placing.specs.Placing.{place as Placing·place};
+ghost use Rattle.placing.specs.Placing.{placed, place};
 
 // The bytes that a line gives in hex from a place on, put into a buffer, if they fit.
 pub fn place(buffer: &mut [u8], line: &[u8], at: usize, from: usize) -> bool
-    ensures { placed result buffer.new ≡ Placing·place buffer.old line.now at from }
+    ensures { placed result buffer.new ≡ place buffer.old line.now at from }
 {
     if 99000 < line.len() {
         return false;

@@ -5,12 +5,11 @@
 
 ghost use Rattle.std.specs.Prelude.{◌≡◌, ◌+◌, ◌*◌, ◌≤◌, ◌<◌, length};
 ghost use Rattle.rules.specs.Bytes.{splice};
-ghost use Rattle.printing.specs.Printing.{hex_of};
-ghost use Rattle.printing.specs.Printing.{glyph as Printing·glyph};
+ghost use Rattle.printing.specs.Printing.{hex_of, glyph};
 
 fn glyph(d: u8) -> u8
     requires { d < 16 }
-    ensures { result ≡ Printing·glyph d }
+    ensures { result ≡ glyph d }
 {
     if d < 10 {
         return 48 + d;

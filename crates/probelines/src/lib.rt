@@ -7,8 +7,7 @@ ghost use Rattle.rules.specs.declared.Session.{Session};
 ghost use Rattle.rules.specs.Session.{state};
 ghost use Rattle.rules.specs.Calls.{powers, call};
 ghost use Rattle.lines.specs.Seen.{seen};
-ghost use Rattle.probelines.specs.ProbeLines.{says, powered, asks, session_at, answered};
-ghost use Rattle.probelines.specs.ProbeLines.{shows as ProbeLines·shows, taken as ProbeLines·taken, put as ProbeLines·put};
+ghost use Rattle.probelines.specs.ProbeLines.{says, powered, asks, session_at, answered, shows, taken, put};
 
 use lines::{Said, What};
 use rules::{Reply, Session};
@@ -31,7 +30,7 @@ fn say(session: Session, ok: bool, out: &mut [u8]) -> Said
 
 fn shows(r: Reply, store: &[u8], work: &[u8], resp: &[u8], out: &mut [u8]) -> Said
     requires { 2 * length resp.now + 200 ≤ length out.old }
-    ensures { seen result.session store.now work.now resp.now result.len out.new ≡ ProbeLines·shows r store.now work.now resp.now out.old }
+    ensures { seen result.session store.now work.now resp.now result.len out.new ≡ shows r store.now work.now resp.now out.old }
 {
     let session = r.session;
     let len = outcomes::write(out, r, store, work, resp);
@@ -85,7 +84,7 @@ fn session_at(digits: &[u8]) -> Taken
 
 fn take(session: Session, t: Taken, out: &mut [u8]) -> Said
     requires { 9 ≤ length out.old }
-    ensures { (s w p : List ℕ) → seen result.session s w p result.len out.new ≡ ProbeLines·taken (state s w session) p t out.old }
+    ensures { (s w p : List ℕ) → seen result.session s w p result.len out.new ≡ taken (state s w session) p t out.old }
 {
     match t {
         Taken::Is(s) => say(s, true, out),
@@ -105,7 +104,7 @@ fn put(
     out: &mut [u8],
 ) -> Said
     requires { 9 ≤ length out.old }
-    ensures { seen result.session store.new work.new resp.new result.len out.new ≡ ProbeLines·put (state store.old work.old session) resp.old line.now b at from out.old }
+    ensures { seen result.session store.new work.new resp.new result.len out.new ≡ put (state store.old work.old session) resp.old line.now b at from out.old }
 {
     match b {
         Buffer::Store => {

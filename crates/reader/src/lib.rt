@@ -1,7 +1,6 @@
 // The reader that is carried over the data objects of a command data field (01, "The data objects in a command"): the field and a position.
 // A value read is given by its place in the field itself. A reader that failed stays failed, so a row of reads is a straight line.
-// The borrow checker covers no function over such a struct: each is thin, takes it apart, calls a covered function on the slice
-// and the number, and is proved by a walk of its code, by hand. Callers use the functions on a plain slice, below.
+// Callers use the functions on a plain slice, below.
 
 #![tactic(auto)]
 

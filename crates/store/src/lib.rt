@@ -4,8 +4,7 @@
 
 ghost use Rattle.std.specs.Prelude.{◌≡◌, true, ℕ, ◌+◌, ◌≤◌, ◌<◌, length};
 ghost use Rattle.rules.specs.Bytes.{part};
-ghost use Rattle.rules.specs.Store.{capacity, object_of, slot_bytes, put_object, key_place, algorithm_of};
-ghost use Rattle.rules.specs.Store.{well_formed};
+ghost use Rattle.rules.specs.Store.{capacity, object_of, slot_bytes, put_object, key_place, algorithm_of, well_formed};
 
 // ---- objects
 

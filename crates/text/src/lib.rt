@@ -4,13 +4,12 @@
 
 ghost use Rattle.std.specs.Prelude.{◌≡◌, ◌+◌, ◌*◌, ◌≤◌, length, take};
 ghost use Rattle.rules.specs.Bytes.{splice};
-ghost use Rattle.text.specs.Text.{is_digit, digit_of, is_hex, bytes_of};
-ghost use Rattle.text.specs.Text.{between as Text·between};
+ghost use Rattle.text.specs.Text.{is_digit, digit_of, is_hex, bytes_of, between};
 
 // ---- digits
 
 fn between(a: u8, b: u8, d: u8) -> bool
-    ensures { result ≡ Text·between a b d }
+    ensures { result ≡ between a b d }
 {
     if d < a {
         return false;

@@ -3,8 +3,7 @@
 #![tactic(auto)]
 
 ghost use Rattle.std.specs.Prelude.{◌≡◌, ◌≤◌};
-ghost use Rattle.verbs.specs.Verbs.{buffer_at, is_figure, number_at, verb_of};
-ghost use Rattle.verbs.specs.Verbs.{starts as Verbs·starts, grown as Verbs·grown, put_of as Verbs·putOf, lend_of as Verbs·lendOf};
+ghost use Rattle.verbs.specs.Verbs.{buffer_at, is_figure, number_at, verb_of, starts, grown, put_of, lend_of};
 
 use lines::What;
 
@@ -63,7 +62,7 @@ const ON_CONTACTLESS: [u8; 4] = [111, 110, 32, 49];
 // ---- words
 
 fn starts(l: &[u8], from: usize, w: &[u8]) -> bool
-    ensures { result ≡ Verbs·starts l.now from w.now }
+    ensures { result ≡ starts l.now from w.now }
 {
     parts::same(lines::first(lines::after(l, from), w.len()), w)
 }
@@ -100,7 +99,7 @@ fn is_figure(d: u8) -> bool
 
 fn grown(v: usize, d: u8) -> usize
     requires { (v ≤ 40001) × (48 ≤ d) }
-    ensures { result ≡ Verbs·grown v d }
+    ensures { result ≡ grown v d }
 {
     let n = v * 10 + ((d - 48) as usize);
     if n < 40001 {
@@ -137,7 +136,7 @@ fn number_at(l: &[u8], at: usize) -> Number
 // ---- lines
 
 fn put_of(l: &[u8], b: Named) -> Verb
-    ensures { result ≡ Verbs·putOf l.now b }
+    ensures { result ≡ put_of l.now b }
 {
     match b {
         Named::Nameless => Verb::Other,
@@ -149,7 +148,7 @@ fn put_of(l: &[u8], b: Named) -> Verb
 }
 
 fn lend_of(b: Named) -> Verb
-    ensures { result ≡ Verbs·lendOf b }
+    ensures { result ≡ lend_of b }
 {
     match b {
         Named::Name(buffer, from) => Verb::Lend(buffer, from),
