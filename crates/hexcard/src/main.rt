@@ -1,5 +1,6 @@
 // The program of 01's "Checked examples": hex lines in, one contact command each, on a fixed card; a line out for each.
 // Lines end at LF; a last line without LF is a line; nothing comes after a final LF. What a line comes to is in hexlines.
+// A read or a write that fails ends the program with the error of the system.
 
 #![tactic(auto)]
 

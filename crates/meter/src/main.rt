@@ -104,7 +104,7 @@ fn issue(store: &mut [u8])
     octets::put(store, 28, &keys);
 }
 
-// Reads until the buffer is full or the input ends, and says how many bytes it put at its start.
+// Reads until the buffer is full or the input ends, and says how many bytes it put at its start. A read that fails ends the program with the error.
 fn fill(rt: &HostRuntime, buffer: &mut [u8; 65536]) -> io::Result<usize>
     ensures { IfOk result (λ n. n ≤ 65536) }
 {

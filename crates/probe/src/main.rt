@@ -4,12 +4,14 @@
 
 #![tactic(auto)]
 
-ghost use Rattle.std.specs.Prelude.{◌≡◌, ◌≤◌, length, IfOk};
+ghost use Rattle.std.specs.Prelude.{◌≡◌, ◌≤◌, length, IfOk, OnErr};
 
 use rules::Session;
 use std::io;
 use std::io::Read;
 use verbs::{Buffer, Verb};
+
+// A read or a write that fails ends the program with the error of the system; every buffer then has the length that it had.
 
 // What a line is answered with: the session, and how much of each buffer is lent.
 #[derive(Clone, Copy)]
@@ -46,7 +48,8 @@ fn call(
     line: &[u8],
 ) -> io::Result<Desk>
     requires { (d.store ≤ length store.old) × (d.work ≤ length work.old) × (d.resp ≤ length resp.old) × (length resp.old ≤ 1024) }
-    ensures { IfOk result (λ r. (r.store ≡ d.store) × (r.work ≡ d.work) × (r.resp ≡ d.resp)) }
+    ensures ok { IfOk result (λ r. (r.store ≡ d.store) × (r.work ≡ d.work) × (r.resp ≡ d.resp)) }
+    ensures err { OnErr result ((length store.new ≡ length store.old) × (length work.new ≡ length work.old) × (length resp.new ≡ length resp.old)) }
 {
     let mut out = [0u8; 4096];
     let s = d.session;
@@ -81,7 +84,8 @@ fn lend(
     from: usize,
 ) -> io::Result<usize>
     requires { lent ≤ length buffer.old }
-    ensures { IfOk result (λ n. n ≤ length buffer.old) }
+    ensures ok { IfOk result (λ n. n ≤ length buffer.old) }
+    ensures err { OnErr result (length buffer.new ≡ length buffer.old) }
 {
     if placing::place(buffer, line, 0, from) {
         rt.write_all(b"ok\n")?;
@@ -102,7 +106,8 @@ fn lend_named(
     from: usize,
 ) -> io::Result<Desk>
     requires { (d.store ≤ length store.old) × (d.work ≤ length work.old) × (d.resp ≤ length resp.old) }
-    ensures { IfOk result (λ r. (r.store ≤ length store.old) × (r.work ≤ length work.old) × (r.resp ≤ length resp.old)) }
+    ensures ok { IfOk result (λ r. (r.store ≤ length store.old) × (r.work ≤ length work.old) × (r.resp ≤ length resp.old)) }
+    ensures err { OnErr result ((length store.new ≡ length store.old) × (length work.new ≡ length work.old) × (length resp.new ≡ length resp.old)) }
 {
     let mut next = d;
     match b {
@@ -130,7 +135,8 @@ fn answer(
     line: &[u8],
 ) -> io::Result<Desk>
     requires { (d.store ≤ length store.old) × (d.work ≤ length work.old) × (d.resp ≤ length resp.old) × (length resp.old ≤ 1024) }
-    ensures { IfOk result (λ r. (r.store ≤ length store.old) × (r.work ≤ length work.old) × (r.resp ≤ length resp.old)) }
+    ensures ok { IfOk result (λ r. (r.store ≤ length store.old) × (r.work ≤ length work.old) × (r.resp ≤ length resp.old)) }
+    ensures err { OnErr result ((length store.new ≡ length store.old) × (length work.new ≡ length work.old) × (length resp.new ≡ length resp.old)) }
 {
     let v = verbs::verb_of(line);
     if let Verb::Lend(b, from) = v {
