@@ -1,9 +1,9 @@
 -- Attempt: a value given, compared with the PIN or the PUK.
 --
---   form_of f               the form that a value must have
---   two_values f g d        d is 16 bytes, and either half has its form
---   tried_of f ok d         what comes of comparing the first eight bytes of d with the reference f; ok says whether d has its form
---   steps_of w t            the steps made on reference w where t came of it
+--   form_of f              the form that a value must have
+--   two_values f g d       d is 16 bytes, and either half has its form
+--   tried_of f ok d        what comes of comparing the first eight bytes of d with the reference f; ok says whether d has its form
+--   steps_of w t           the steps made on reference w where t came of it
 --
 -- Assumes nothing.
 use Rattle.std.specs.Prelude.{Bool, not, ◌&&◌, List, [], ◌∷◌, ℕ, eqb, length, take, drop}

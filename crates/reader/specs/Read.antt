@@ -1,6 +1,6 @@
 -- Read: where a reader stands after an object.
 --
---   after s f          the place behind the object f of s; where there is none the end, so that nothing more is read
+--   after s f           the place behind the object f of s; where there is none the end, so that nothing more is read
 --   behind_first s tag  the place behind the object at the start of s
 --
 -- Assumes nothing.

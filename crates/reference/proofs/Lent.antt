@@ -1,7 +1,7 @@
 -- Lent: one reference of a store, its ten bytes lent.
 --
---   place_of w              where the ten bytes of a reference stand
---   read-lent               the reference in the ten bytes that are lent
+--   place_of w             where the ten bytes of a reference stand
+--   read-lent              the reference in the ten bytes that are lent
 --   charge-back restore-back renew-back    the store, when the ten bytes come back with a step made on them
 --
 -- Assumes nothing.

@@ -1,21 +1,21 @@
 -- Lists: parts of a row of bytes, and a row in which a stretch was replaced.
 --
---   length-splice          a splice keeps the length
+--   length-splice           a splice keeps the length
 --   splice-before splice_in splice-after    what stands before, in and after the stretch
---   length-zeros           a row of zeros
+--   length-zeros            a row of zeros
 --   length_part get_d_part  the length of a part, and what stands in it
---   part_ext               two rows that agree on a stretch have the same part there
---   part_apart             a part apart from the stretch stays
---   take-splice            a row up to the end of the stretch
---   splice-part            a stretch replaced by itself
---   splice_again           a stretch replaced twice
---   splice_apart           two stretches apart from each other, in either order
---   splice-within          a stretch whose ends stay as they were
+--   part_ext                two rows that agree on a stretch have the same part there
+--   part_apart              a part apart from the stretch stays
+--   take-splice             a row up to the end of the stretch
+--   splice-part             a stretch replaced by itself
+--   splice_again            a stretch replaced twice
+--   splice_apart            two stretches apart from each other, in either order
+--   splice-within           a stretch whose ends stay as they were
 --   splice-next join-start two stretches put one behind the other, and from the start
---   part-start             the start of a row whose start was replaced
---   part-add               a part is its first bytes and those behind them
---   part_none part_cons    a part of no bytes, and its first byte
---   part-head              the part of a row that starts with the row v
+--   part-start                the start of a row whose start was replaced
+--   part-add                  a part is its first bytes and those behind them
+--   part_none part_cons       a part of no bytes, and its first byte
+--   part-head                 the part of a row that starts with the row v
 --   same_bytes_lem same_true  `same_bytes` says that two rows are equal
 --
 -- Assumes nothing.

@@ -1,16 +1,16 @@
 -- Slots: the slots of a store, read and written.
 --
 --   slot_fits_lem slot-from  a slot lies in the store, behind its first 32 bytes
---   capacity_small         no capacity is over 13,312
---   slots_apart            two slots do not overlap
---   Sound s                s has its size, and no length passes its capacity
---   object-length          the length of an object is that of its slot
---   slot_bytes-length      a slot written has its length and its capacity
+--   capacity_small           no capacity is over 13,312
+--   slots_apart              two slots do not overlap
+--   Sound s                  s has its size, and no length passes its capacity
+--   object-length            the length of an object is that of its slot
+--   slot_bytes-length        a slot written has its length and its capacity
 --   put-before put_in_lem put-after put_other  the bytes of a store in which an object was put
---   put-size               it keeps its size
---   put-length put-length-other              the lengths in it
---   put-object put-tail put-object-other     the object put is there, zeros behind it, and the others stay
---   sound_put              it stays sound
+--   put-size                 it keeps its size
+--   put-length put-length-other                the lengths in it
+--   put-object put-tail put-object-other       the object put is there, zeros behind it, and the others stay
+--   sound_put                it stays sound
 --
 -- Assumes nothing.
 use mathlib.Core.Path.{◌≡◌, refl, ap, ◌∙◌, subst}

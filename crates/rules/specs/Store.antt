@@ -1,8 +1,8 @@
 -- Store: the store's layout, its slots, and when it is well formed (01, "What the host lends").
 --
 --   store_size work_size response_size  the sizes of the store and the work area, and the least of a response buffer
---   tags capacities offsets            the table of 01, a column each; slots are numbered 0 to 11 in its order
---   contact_read contactless_read      its last two columns
+--   tags capacities offsets             the table of 01, a column each; slots are numbered 0 to 11 in its order
+--   contact_read contactless_read       its last two columns
 --   slots                 the number of slots
 --   tag_of tag_bytes i    the tag of slot i, and the number of its bytes
 --   slot_named n t        the slot whose tag has n bytes and is the number t; `slots` where there is none

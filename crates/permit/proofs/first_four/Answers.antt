@@ -1,5 +1,6 @@
 -- Refusals 1 to 4, in their order.
 -- Assumes nothing.
+use native.Mathlib.Omega.{arith}
 use Rattle.rules.proofs.Tests.{negated}
 use Rattle.permit.proofs.Row.{four_1, four_2, four_3, four_4, four_none}
 use Rattle.permit.proofs.first_four.Goals as goal
@@ -16,7 +17,7 @@ returns-then-resp-lt258 c =
 
 pub returns-then-work-ne13321 : goal.returns-then-work-ne13321
 returns-then-work-ne13321 c =
-    four_4 _ _ _ _ c.if-not-formed.false-raw (negated c.possible.ensures c.if-not-possible.false-raw) c.if-resp-lt258.false c.if-work-ne13321.true
+    four_4 _ _ _ _ c.if-not-formed.false-raw (negated c.possible.ensures c.if-not-possible.false-raw) (omega arith) c.if-work-ne13321.true
 
 pub returns : goal.returns
 returns c =

@@ -1,18 +1,18 @@
 -- Laws: a row of steps on a store, the judgement that it leads to, and the comparison before it.
 --
---   Row s b r t            the store t holds the references r over s, with the PIN status b
---   no_step next_step      a row of no step, and of one step more
---   charge-kept            a charge leaves the value as it is
---   judged_by              the judgement of a rule, by the row of steps that were made
---   quiet                  the same where nothing is written
---   same_said              the judgement of a rule, by that of what it comes to
---   Came .. t u            a comparison comes to t, and to the store u
+--   Row s b r t             the store t holds the references r over s, with the PIN status b
+--   no_step next_step       a row of no step, and of one step more
+--   charge-kept             a charge leaves the value as it is
+--   judged_by               the judgement of a rule, by the row of steps that were made
+--   quiet                   the same where nothing is written
+--   same_said               the judgement of a rule, by that of what it comes to
+--   Came .. t u             a comparison comes to t, and to the store u
 --   came_none came_formless came_equal came_unequal    what it comes to, by the tests on the way
---   start-length           eight bytes are compared
---   equal_formed           what is found equal has its form
+--   start-length            eight bytes are compared
+--   equal_formed            what is found equal has its form
 --   said_by r w hit miss t  what a rule says that compares reference w, where t came of it
---   by_tried both-not      a row of tests that says that
---   GoesBy x s b w ..      that the rule x does
+--   by_tried both-not       a row of tests that says that
+--   GoesBy x s b w ..       that the rule x does
 --   refused missed_by found    the judgement where nothing was compared, and of a miss; how a rule goes on after a hit
 --   two-length two-first two-last two_sixteen    two values in 16 bytes
 --   first_half last_half half_length             the two halves

@@ -1,19 +1,19 @@
 -- ReadBack: an object stored by a completed PUT DATA is what GET DATA and the GET RESPONSEs straight after it hand back, joined, whenever its
 -- access condition holds, until it is next replaced; after an empty one GET DATA says there is none, under the same condition (demand 2).
 --
---   Le · wanted le        an Le byte, or none; the expected length it says
---   tag_bytes_of i        the tag of slot i as a tag list names it
---   put_field i v         the data of a PUT DATA of slot i with the value v
---   gets i le · more le   GET DATA of slot i, and GET RESPONSE
---   data_of r · word_of r   the data and the status word that a call responds
---   Puts cla st k d       the call k, made in st, is a command PUT DATA of that class with the data d, and is answered 9000
---   Pieces st ks d        the calls ks, made one after the other from st, are one PUT DATA in pieces whose data, joined, are d
---   Untouched i st ks     no call of the row ks completes a PUT DATA of slot i
---   Ask · reading i a bs  a response buffer and an Le; GET DATA of slot i and GET RESPONSEs straight after it
---   Ends n bs             the asks of the row end where nothing is left of n bytes, and not before
---   Answers st i v        what is said in the state st of slot i, which holds v
---   Replaced s t i v      what a completed PUT DATA made of the store s
---   Holds                 the claim
+--   Le · wanted le         an Le byte, or none; the expected length it says
+--   tag_bytes_of i         the tag of slot i as a tag list names it
+--   put_field i v          the data of a PUT DATA of slot i with the value v
+--   gets i le · more le    GET DATA of slot i, and GET RESPONSE
+--   data_of r · word_of r  the data and the status word that a call responds
+--   Puts cla st k d        the call k, made in st, is a command PUT DATA of that class with the data d, and is answered 9000
+--   Pieces st ks d         the calls ks, made one after the other from st, are one PUT DATA in pieces whose data, joined, are d
+--   Untouched i st ks      no call of the row ks completes a PUT DATA of slot i
+--   Ask · reading i a bs   a response buffer and an Le; GET DATA of slot i and GET RESPONSEs straight after it
+--   Ends n bs              the asks of the row end where nothing is left of n bytes, and not before
+--   Answers st i v         what is said in the state st of slot i, which holds v
+--   Replaced s t i v       what a completed PUT DATA made of the store s
+--   Holds                  the claim
 --
 -- Assumes nothing.
 use Rattle.std.specs.Prelude.{◌≡◌, Bool, true, false, ◌&&◌, List, [], ◌∷◌, ◌++◌, map, ℕ, ◌+◌, ◌-◌, ◌/◌, ◌%◌, ◌≤◌, ◌<◌, eqb, length, take, get_or}
