@@ -1,6 +1,6 @@
 -- Laws: of a command and of a result, no more than the first 262 bytes matter.
 --
---   read-back count_back few_bytes    the bytes that are read of a row of digits, and their number
+--   read_back_lem count_back few_bytes    the bytes that are read of a row of digits, and their number
 --   sends-long             two commands that are too long
 --   asked-few              a call, and its first bytes
 --

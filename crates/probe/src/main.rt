@@ -1,6 +1,7 @@
 // Every call of the card, by lines of text: `cmd HEX`, `done HEX`, `fail`, `on I`, `session HEX`, `store HEX`, `put store N HEX` and so on.
 // Each line is answered before the next is read. What a line comes to is the crate probelines; the program holds the buffers
-// and knows how much of each it lends.
+// and knows how much of each it lends. A read or a write that fails ends the program with the error of the system; every buffer then has
+// the length that it had.
 
 #![tactic(auto)]
 
@@ -10,8 +11,6 @@ use rules::Session;
 use std::io;
 use std::io::Read;
 use verbs::{Buffer, Verb};
-
-// A read or a write that fails ends the program with the error of the system; every buffer then has the length that it had.
 
 // What a line is answered with: the session, and how much of each buffer is lent.
 #[derive(Clone, Copy)]

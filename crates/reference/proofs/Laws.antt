@@ -13,7 +13,7 @@ use lib.ListN.{length, take, drop, get_or}
 use lib.Seq.{take-take}
 use Rattle.rules.specs.Bytes.{part}
 use Rattle.rules.specs.Reference.{Reference, reference_at, put_reference}
-use Rattle.rules.proofs.Lists.{length_part, get_d_part}
+use Rattle.rules.proofs.Lists.{length_part, get_or-part}
 use Rattle.octets.proofs.Laws.{lent, part-rest, whole}
 
 module _ (s : List ℕ) (at : ℕ) (h : at + 10 ≤ length s) where
@@ -24,8 +24,8 @@ module _ (s : List ℕ) (at : ℕ) (h : at + 10 ≤ length s) where
   pub reference_lent : reference_at (part s at 10) 0 ≡ reference_at s at
   unfolding reference_at part
   reference_lent =
-      let limit : get_or (part s at 10) 0 0 ≡ get_or s at 0 = get_d_part s at 10 h 0 (omega arith) ∙ ap (λ (n : ℕ). get_or s n 0) (omega arith) in
-      let left : get_or (part s at 10) 1 0 ≡ get_or s (at + 1) 0 = get_d_part s at 10 h 1 (omega arith) in
+      let limit : get_or (part s at 10) 0 0 ≡ get_or s at 0 = get_or-part s at 10 h 0 (omega arith) ∙ ap (λ (n : ℕ). get_or s n 0) (omega arith) in
+      let left : get_or (part s at 10) 1 0 ≡ get_or s (at + 1) 0 = get_or-part s at 10 h 1 (omega arith) in
       let value : part (part s at 10) 2 8 ≡ part s (at + 2) 8 =
       ap (take 8) (sym (part-rest s at 2 8)) ∙ take-take 8 8 (drop (at + 2) s) (omega arith) in
       rw (limit, left, value)

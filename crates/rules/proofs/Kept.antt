@@ -52,7 +52,7 @@ use Rattle.rules.specs.Keys.{key_fits, auth_each, contents, replied, opened, aut
 use Rattle.rules.specs.Calls.{ruled, obeyed, command}
 use Rattle.rules.specs.Claims.Lengths.{Bytes}
 use Rattle.rules.proofs.Tests.{either, branch, off, and_left, and_right, and_both, and_end, and-other, by_order, by_equal}
-use Rattle.rules.proofs.Lists.{length-splice, splice_in, splice-after, length_part, get_d_part, length-zeros}
+use Rattle.rules.proofs.Lists.{length-splice, splice_in, splice-after, length_part, get_or-part, length-zeros}
 use Rattle.rules.proofs.Possible.{Tests, possible_tests, possible_by, held_fits_by, no_chain, no_rest, none_open}
 use Rattle.rules.proofs.Slots.{Sound, slot-from, object-length, capacity_small, put-before}
 use Rattle.rules.proofs.Refs.{refs_onto_lem}
@@ -453,7 +453,7 @@ unfolding algorithm_of
 algorithm-ok s w key =
     let l : 28 + 4 ≤ length s = omega (arith, wf_size s w) in
     let k : key_place key - 28 < 4 = omega (arith, key_low key, key_high key) in
-    subst (λ (x : ℕ). algorithm_ok x ≡ true) (get_d_part s 28 4 l (key_place key - 28) k ∙ ap (λ (n : ℕ). get_or s n 0) (omega (arith, key_low key)))
+    subst (λ (x : ℕ). algorithm_ok x ≡ true) (get_or-part s 28 4 l (key_place key - 28) k ∙ ap (λ (n : ℕ). get_or s n 0) (omega (arith, key_low key)))
     (all_at algorithm_ok (part s 28 4) (wf_tests s w).keys (key_place key - 28) (omega (arith, length_part s 28 4 l)))
 
 -- what passes the rules for each piece

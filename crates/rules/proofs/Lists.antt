@@ -1,22 +1,22 @@
 -- Lists: parts of a row of bytes, and a row in which a stretch was replaced.
 --
---   length-splice           a splice keeps the length
---   splice-before splice_in splice-after    what stands before, in and after the stretch
---   length-zeros            a row of zeros
---   length_part get_d_part  the length of a part, and what stands in it
---   part_ext                two rows that agree on a stretch have the same part there
---   part_apart              a part apart from the stretch stays
---   take-splice             a row up to the end of the stretch
---   splice-part             a stretch replaced by itself
---   splice_again            a stretch replaced twice
---   splice_apart            two stretches apart from each other, in either order
---   splice-within           a stretch whose ends stay as they were
---   splice-next join-start two stretches put one behind the other, and from the start
---   part-start                the start of a row whose start was replaced
---   part-add                  a part is its first bytes and those behind them
---   part_none part_cons       a part of no bytes, and its first byte
---   part-head                 the part of a row that starts with the row v
---   same_bytes_lem same_true  `same_bytes` says that two rows are equal
+--   length-splice              a splice keeps the length
+--   splice-before splice_in splice-after  what stands before, in and after the stretch
+--   length-zeros               a row of zeros
+--   length_part get_or-part     the length of a part, and what stands in it
+--   part_ext                   two rows that agree on a stretch have the same part there
+--   part_apart                 a part apart from the stretch stays
+--   take-splice                a row up to the end of the stretch
+--   splice-part                a stretch replaced by itself
+--   splice_again               a stretch replaced twice
+--   splice_apart               two stretches apart from each other, in either order
+--   splice-within              a stretch whose ends stay as they were
+--   splice-next join-start     two stretches put one behind the other, and from the start
+--   part-start                 the start of a row whose start was replaced
+--   part-add                   a part is its first bytes and those behind them
+--   part_none part_cons        a part of no bytes, and its first byte
+--   part-head                  the part of a row that starts with the row v
+--   same_bytes_lem same_true   `same_bytes` says that two rows are equal
 --
 -- Assumes nothing.
 use mathlib.Core.Path.{◌≡◌, refl, ap, ap₂, sym, ◌∙◌, subst}
@@ -76,16 +76,16 @@ module _ (s : List ℕ) (at n : ℕ) (fits : at + n ≤ length s) where
   unfolding part
   length_part = simp (length-take, length-drop) (omega arith)
 
-  pub get_d_part : (i : ℕ) → i < n → get_or (part s at n) i 0 ≡ get_or s (at + i) 0
+  pub get_or-part : (i : ℕ) → i < n → get_or (part s at n) i 0 ≡ get_or s (at + i) 0
   unfolding part
-  get_d_part i h = rw (get_or-take, get_or-drop)
+  get_or-part i h = rw (get_or-take, get_or-drop)
 
 pub part_ext : (s t : List ℕ) (at n : ℕ) → at + n ≤ length s → at + n ≤ length t
     → ((j : ℕ) → at ≤ j → j < at + n → get_or s j 0 ≡ get_or t j 0) → part s at n ≡ part t at n
 part_ext s t at n hs ht same =
     ext_get_or 0 (part s at n) (part t at n) (length_part s at n hs ∙ sym (length_part t at n ht))
     λ i h. let hi : i < n = rw (length_part s at n hs) at h in
-    get_d_part s at n hs i hi ∙ same (at + i) (omega arith) (omega arith) ∙ sym (get_d_part t at n ht i hi)
+    get_or-part s at n hs i hi ∙ same (at + i) (omega arith) (omega arith) ∙ sym (get_or-part t at n ht i hi)
 
 module _ (s v : List ℕ) (at : ℕ) (fits : at + length v ≤ length s) where
   pub part_apart : (a n : ℕ) → a + n ≤ length s → (a + n ≤ at) ⊎ (at + length v ≤ a) → part (splice s at v) a n ≡ part s a n
@@ -127,7 +127,7 @@ splice-part s at n fits =
     (λ m. let e : at + (j - at) ≡ j = omega arith in
     ap (λ (i : ℕ). get_or (splice s at v) i 0) (sym e)
     ∙ splice_in s v at f (j - at) (omega arith)
-    ∙ get_d_part s at n fits (j - at) (omega arith)
+    ∙ get_or-part s at n fits (j - at) (omega arith)
     ∙ ap (λ (i : ℕ). get_or s i 0) e)
     (λ m. splice-after s v at f j (omega arith)))
 

@@ -28,7 +28,7 @@ use Rattle.rules.specs.Reference.{Reference, reference_at, put_reference, charge
 use Rattle.rules.specs.Command.{Which, the_pin, the_puk, Step, charge, equal, unequal, restore, new_value}
 use Rattle.rules.specs.Store.{pin_at, puk_at}
 use Rattle.rules.specs.Pin.{Refs, the, put_the, stepped, refs_in, refs_onto}
-use Rattle.rules.proofs.Lists.{length-splice, splice-before, splice_in, splice-after, length_part, get_d_part, part_apart, part_cons, splice-part, splice_again, splice_apart, splice-within}
+use Rattle.rules.proofs.Lists.{length-splice, splice-before, splice_in, splice-after, length_part, get_or-part, part_apart, part_cons, splice-part, splice_again, splice_apart, splice-within}
 
 -- ---- one reference at a place
 
@@ -56,7 +56,7 @@ module _ (s : List ℕ) (at : ℕ) (f : Reference) (lf : length f.value ≡ 8) (
       let c : part (splice s at v) (at + 2) 8 ≡ f.value =
       ext_get_or 0 (part (splice s at v) (at + 2) 8) f.value (length_part (splice s at v) (at + 2) 8 (omega arith) ∙ sym lf)
       λ k p. let q : k < 8 = rw (length_part (splice s at v) (at + 2) 8 (omega arith)) at p in
-      get_d_part (splice s at v) (at + 2) 8 (omega arith) k q
+      get_or-part (splice s at v) (at + 2) 8 (omega arith) k q
       ∙ ap (λ (n : ℕ). get_or (splice s at v) n 0) (omega arith) ∙ splice_in s v at fits (suc (suc k)) (omega arith) in
       rw (a, b, c)
 
@@ -79,7 +79,7 @@ module _ (s : List ℕ) (at : ℕ) (h : at + 10 ≤ length s) where
   behind : (k : ℕ) → k < length (part s (at + 2) 8) → get_or (part s (at + 2) 8) k 0 ≡ get_or s (at + 1 + 1 + k) 0
   behind k p =
       let q : k < 8 = rw (length_part s (at + 2) 8 (omega arith)) at p in
-      get_d_part s (at + 2) 8 (omega arith) k q ∙ ap (λ (n : ℕ). get_or s n 0) (omega arith)
+      get_or-part s (at + 2) 8 (omega arith) k q ∙ ap (λ (n : ℕ). get_or s n 0) (omega arith)
 
   left-byte : (x : ℕ) → splice s at (get_or s at 0 ∷ x ∷ part s (at + 2) 8) ≡ splice s (at + 1) (x ∷ [])
   left-byte x =

@@ -26,7 +26,7 @@ use borrow.Author.Tests.{eqb-true, leb-true}
 use Rattle.rules.specs.Bytes.{all_below, part, zeros, word, be16}
 use Rattle.rules.specs.Store.{store_size, slots, capacity, offset, slot_length, object_of, slot_bytes, put_object}
 use Rattle.rules.proofs.Tests.{at_each, and_left, and_right, or_cases, by_equal}
-use Rattle.rules.proofs.Lists.{length-splice, splice-before, splice_in, splice-after, length_part, get_d_part, part_ext}
+use Rattle.rules.proofs.Lists.{length-splice, splice-before, splice_in, splice-after, length_part, get_or-part, part_ext}
 
 -- ---- the table's rules, each computed once
 
@@ -154,7 +154,7 @@ module _ (s : List ℕ) (i : ℕ) (v : List ℕ) (hi : i < slots) (hv : length v
   put-object = rw put-length
       (ext_get_or 0 (part (put_object s i v) (offset i + 2) (length v)) v (length_part (put_object s i v) (offset i + 2) (length v) object_fits)
       λ k h. let hk : k < length v = rw (length_part (put_object s i v) (offset i + 2) (length v) object_fits) at h in
-      get_d_part (put_object s i v) (offset i + 2) (length v) object_fits k hk
+      get_or-part (put_object s i v) (offset i + 2) (length v) object_fits k hk
       ∙ ap (λ (n : ℕ). get_or (put_object s i v) n 0) (omega arith)
       ∙ put_in_lem (2 + k) (omega arith)
       ∙ value_at k hk)

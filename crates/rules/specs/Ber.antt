@@ -1,15 +1,15 @@
 -- Ber: lengths and data objects (01, "The data objects in a command").
 --
---   bits n             the count of significant bits of n
---   length_bytes n     the number of bytes that the length n takes
---   length_form k n    the length n written in k bytes
---   ber_length n       the length n as it is written
---   announced b        the number of bytes of a length whose first byte is b; 0 where no length starts so
---   length_value s at k the length that stands in the k bytes of s from the place `at` on
---   length_at s at      the length read at a place, and the place after it
---   object_at s at tag  the object with that tag read at a place: where its value starts and how long it is
---   last_at s at tag    the same of an object with which s ends
---   tlv tag v           the object with that tag and value as it is written
+--   bits n               the count of significant bits of n
+--   length_bytes n       the number of bytes that the length n takes
+--   length_form k n      the length n written in k bytes
+--   ber_length n         the length n as it is written
+--   announced b          the number of bytes of a length whose first byte is b; 0 where no length starts so
+--   length_value s at k  the length that stands in the k bytes of s from the place `at` on
+--   length_at s at       the length read at a place, and the place after it
+--   object_at s at tag   the object with that tag read at a place: where its value starts and how long it is
+--   last_at s at tag     the same of an object with which s ends
+--   tlv tag v            the object with that tag and value as it is written
 --
 -- Assumes nothing.
 use Rattle.std.specs.Prelude.{◌||◌, List, [], ◌∷◌, ◌++◌, ℕ, ◌+◌, ◌-◌, ltb, leb, eqb, length, get_or}
