@@ -99,9 +99,9 @@ pub record Formed (d : List ℕ) (i : ℕ) (v : List ℕ) : Type 0 where
   pub form : put_form d ≡ Object i from (length v)
   pub value : part d from (length v) ≡ v
 
-starts_7_e : (v : List ℕ) → eqb (get_or (tlv 0x7E v) 0 0) 0x7E ≡ true
+starts_7e : (v : List ℕ) → eqb (get_or (tlv 0x7E v) 0 0) 0x7E ≡ true
 unfolding tlv
-starts_7_e v = refl
+starts_7e v = refl
 
 discovery_form : (v : List ℕ) → length v < 65536 → Formed (tlv 0x7E v) discovery v
 unfolding put_form put_in
@@ -109,7 +109,7 @@ discovery_form v h =
     let e : [] ++ (tlv 0x7E v ++ []) ≡ tlv 0x7E v = append-nil (tlv 0x7E v) in
     record {
       from = 0 + 1 + length (ber_length (length v));
-      form = on _ _ _ (starts_7_e v) ∙ ap (put_in discovery) (ap (λ (l : List ℕ). last_at l 0 0x7E) (sym e) ∙ last-read [] [] v 0x7E h refl);
+      form = on _ _ _ (starts_7e v) ∙ ap (put_in discovery) (ap (λ (l : List ℕ). last_at l 0 0x7E) (sym e) ∙ last-read [] [] v 0x7E h refl);
       value = ap (λ (l : List ℕ). part l (0 + 1 + length (ber_length (length v))) (length v)) (sym e) ∙ value_read [] [] v 0x7E h;
     }
 
