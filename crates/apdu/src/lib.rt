@@ -2,23 +2,25 @@
 
 #![tactic(auto)]
 
-ghost use Rattle.std.specs.Prelude.{◌≡◌, not, ◌&&◌, ◌||◌, ◌+◌, ◌≤◌, eqb, length};
+ghost use Rattle.std.specs.Prelude.{◌≡◌, ◌+◌, ◌≤◌, ◌<◌, length, IfOk};
+ghost use Rattle.rules.specs.Fault.{worded};
 ghost use Rattle.rules.specs.Command.{le_of, header, parse_long, parse, known, chains, contact_only, admit, check};
+ghost use Rattle.apdu.specs.Shape.{Shaped};
 
-use rules::{Checked, Header};
+use rules::{Fault, Header};
 
 // ---- check 1
 
 // Le 00 means 256.
+#[tactic(auto, unfolding(rules::specs::Command::le_of, rules::specs::Bytes::iff))]
 fn le_of(b: u8) -> usize
-    ensures { result ≡ le_of b }
+    ensures value { result ≡ le_of b }
+    ensures most { result ≤ 256 }
 {
-    if b == 0 {
-        return 256;
-    }
-    b as usize
+    if b == 0 { 256 } else { usize::from(b) }
 }
 
+#[tactic(auto, unfolding(rules::specs::Command::header))]
 fn header(c: &[u8], lc: usize, le: usize) -> Header
     requires { 4 ≤ length c.now }
     ensures { result ≡ header c.now lc le }
@@ -34,147 +36,89 @@ fn header(c: &[u8], lc: usize, le: usize) -> Header
 }
 
 // More than five bytes: Lc (1 to 255), data, perhaps Le.
-fn parse_long(c: &[u8], lc: usize) -> Checked
-    requires { (4 ≤ length c.now) × (lc ≤ 255) }
-    ensures { result ≡ parse_long c.now lc }
+#[tactic(auto, unfolding(rules::specs::Command::parse_long, rules::specs::Command::header, rules::specs::Bytes::iff))]
+fn parse_long(c: &[u8], lc: usize) -> Result<Header, Fault>
+    requires longer { 5 < length c.now }
+    requires few { lc ≤ 255 }
+    ensures parsed { worded result ≡ parse_long c.now lc }
+    ensures shape { IfOk result (Shaped c.now) }
 {
-    let n = c.len();
     if lc == 0 {
-        return Checked::Failed(0x6700);
+        return Err(Fault::WrongLength);
     }
-    if n == 5 + lc {
-        return Checked::Passed(header(c, lc, 256));
+    if c.len() == 5 + lc {
+        return Ok(header(c, lc, 256));
     }
-    if n == 6 + lc {
-        return Checked::Passed(header(c, lc, le_of(c[5 + lc])));
+    if c.len() == 6 + lc {
+        return Ok(header(c, lc, le_of(c[5 + lc])));
     }
-    Checked::Failed(0x6700)
+    Err(Fault::WrongLength)
 }
 
-fn parse(c: &[u8]) -> Checked
-    ensures { result ≡ parse c.now }
+#[tactic(auto, unfolding(rules::specs::Command::parse, rules::specs::Command::header, rules::specs::Bytes::iff))]
+fn parse(c: &[u8]) -> Result<Header, Fault>
+    ensures parsed { worded result ≡ parse c.now }
+    ensures shape { IfOk result (Shaped c.now) }
 {
-    let n = c.len();
-    if n < 4 {
-        return Checked::Failed(0x6700);
+    match c.len() {
+        4 => Ok(header(c, 0, 256)),
+        5 => Ok(header(c, 0, le_of(c[4]))),
+        6..=261 => parse_long(c, usize::from(c[4])),
+        _ => Err(Fault::WrongLength),
     }
-    if 261 < n {
-        return Checked::Failed(0x6700);
-    }
-    if n == 4 {
-        return Checked::Passed(header(c, 0, 256));
-    }
-    if n == 5 {
-        return Checked::Passed(header(c, 0, le_of(c[4])));
-    }
-    parse_long(c, c[4] as usize)
 }
 
 // ---- checks 2 to 5
 
+#[tactic(auto, unfolding(rules::specs::Command::known))]
 fn known(ins: u8) -> bool
     ensures { result ≡ known ins }
 {
-    match ins {
-        0xA4 => true,
-        0xCB => true,
-        0xC0 => true,
-        0x20 => true,
-        0x24 => true,
-        0x2C => true,
-        0x87 => true,
-        0xDB => true,
-        _ => false,
-    }
-}
-
-fn chains(ins: u8) -> bool
-    ensures { result ≡ chains ins }
-{
-    match ins {
-        0x87 => true,
-        0xDB => true,
-        _ => false,
-    }
-}
-
-fn contact_only(ins: u8) -> bool
-    ensures { result ≡ contact_only ins }
-{
-    match ins {
-        0x20 => true,
-        0x24 => true,
-        0x2C => true,
-        0xDB => true,
-        _ => false,
-    }
-}
-
-fn secured(cla: u8) -> bool
-    ensures { result ≡ (eqb cla 0x0C || eqb cla 0x1C) }
-{
-    if cla == 0x0C {
-        return true;
-    }
-    cla == 0x1C
-}
-
-fn plain(cla: u8) -> bool
-    ensures { result ≡ (eqb cla 0x00 || eqb cla 0x10) }
-{
-    if cla == 0x00 {
-        return true;
-    }
-    cla == 0x10
+    matches!(ins, 0xA4 | 0xCB | 0xC0 | 0x20 | 0x24 | 0x2C | 0x87 | 0xDB)
 }
 
 // Only 87 and DB are sent in pieces.
-fn not_in_pieces(cla: u8, ins: u8) -> bool
-    ensures { result ≡ (eqb cla 0x10 && not (chains ins)) }
+#[tactic(auto, unfolding(rules::specs::Command::chains))]
+fn chains(ins: u8) -> bool
+    ensures { result ≡ chains ins }
 {
-    if cla != 0x10 {
-        return false;
-    }
-    !chains(ins)
+    matches!(ins, 0x87 | 0xDB)
 }
 
-fn barred(contactless: bool, ins: u8) -> bool
-    ensures { result ≡ (contact_only ins && contactless) }
+#[tactic(auto, unfolding(rules::specs::Command::contact_only))]
+fn contact_only(ins: u8) -> bool
+    ensures { result ≡ contact_only ins }
 {
-    if !contact_only(ins) {
-        return false;
-    }
-    contactless
+    matches!(ins, 0x20 | 0x24 | 0x2C | 0xDB)
 }
 
-fn admit(contactless: bool, h: Header) -> Checked
-    ensures { result ≡ admit contactless h }
+#[tactic(auto, unfolding(rules::specs::Command::admit, rules::specs::Bytes::iff))]
+fn admit(contactless: bool, h: Header) -> Result<Header, Fault>
+    ensures admitted { worded result ≡ admit contactless h }
+    ensures same { IfOk result (λ k. k ≡ h) }
 {
-    let cla = h.cla;
-    let ins = h.ins;
-    if secured(cla) {
-        return Checked::Failed(0x6882);
+    if matches!(h.cla, 0x0C | 0x1C) {
+        return Err(Fault::SecureMessaging);
     }
-    if !plain(cla) {
-        return Checked::Failed(0x6E00);
+    if !matches!(h.cla, 0x00 | 0x10) {
+        return Err(Fault::UnknownCla);
     }
-    if !known(ins) {
-        return Checked::Failed(0x6D00);
+    if !known(h.ins) {
+        return Err(Fault::UnknownIns);
     }
-    if not_in_pieces(cla, ins) {
-        return Checked::Failed(0x6884);
+    if h.cla == 0x10 && !chains(h.ins) {
+        return Err(Fault::NoChaining);
     }
-    if barred(contactless, ins) {
-        return Checked::Failed(0x6A81);
+    if contact_only(h.ins) && contactless {
+        return Err(Fault::NotSupported);
     }
-    Checked::Passed(h)
+    Ok(h)
 }
 
-pub fn check(contactless: bool, c: &[u8]) -> Checked
-    ensures { result ≡ check contactless c.now }
+#[tactic(auto, unfolding(rules::specs::Command::check, rules::specs::Command::admitted))]
+pub fn check(contactless: bool, c: &[u8]) -> Result<Header, Fault>
+    ensures checked { worded result ≡ check contactless c.now }
+    ensures shape { IfOk result (Shaped c.now) }
 {
-    match parse(c) {
-        Checked::Failed(sw) => Checked::Failed(sw),
-        Checked::Passed(h) => admit(contactless, h),
-    }
+    admit(contactless, parse(c)?)
 }

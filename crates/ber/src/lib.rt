@@ -3,93 +3,85 @@
 
 #![tactic(auto)]
 
-ghost use Rattle.std.specs.Prelude.{◌≡◌, ◌+◌, ◌≤◌, ◌<◌, length};
+ghost use Rattle.std.specs.Prelude.{◌≡◌, ◌+◌, ◌≤◌, ◌<◌, length, unwrap_or, IfSome};
 ghost use Rattle.rules.specs.Ber.{length_bytes, announced, length_value, length_at, object_at};
 
-use rules::{Found, Length};
+use rules::{Length, Place};
 
 // ---- lengths
 
 // 01: the number of length bytes follows from the count of significant bits.
+#[tactic(auto, unfolding(rules::specs::Ber::length_bytes, rules::specs::Ber::bits, rules::specs::Bytes::iff))]
 pub fn length_bytes(n: usize) -> usize
     requires { n < 65536 }
-    ensures { result ≡ length_bytes n }
+    ensures bytes { result ≡ length_bytes n }
+    ensures few { result ≤ 3 }
 {
-    let bits = 32 - u32::leading_zeros(n as u32);
-    if bits <= 7 {
-        return 1;
+    match 32 - u32::leading_zeros(n as u32) {
+        0..=7 => 1,
+        8 => 2,
+        _ => 3,
     }
-    if bits <= 8 {
-        return 2;
-    }
-    3
 }
 
-fn announced(b: u8) -> usize
-    ensures { result ≡ announced b }
+// The number of bytes of a length that starts so.
+#[tactic(auto, unfolding(rules::specs::Ber::announced, rules::specs::Bytes::iff))]
+fn announced(b: u8) -> Option<usize>
+    ensures count { unwrap_or result 0 ≡ announced b }
+    ensures few { IfSome result (λ k. (1 ≤ k) × (k ≤ 3)) }
 {
-    if b < 0x80 {
-        return 1;
+    match b {
+        0..=0x7F => Some(1),
+        0x81 => Some(2),
+        0x82 => Some(3),
+        _ => None,
     }
-    if b == 0x81 {
-        return 2;
-    }
-    if b == 0x82 {
-        return 3;
-    }
-    0
 }
 
+#[tactic(auto, unfolding(rules::specs::Ber::length_value, rules::specs::Bytes::iff))]
 fn length_value(s: &[u8], at: usize, k: usize) -> usize
-    requires { (1 ≤ k) × (k ≤ 3) × (at + k ≤ length s.now) }
+    requires some { 1 ≤ k }
+    requires few { k ≤ 3 }
+    requires inside { at + k ≤ length s.now }
     ensures { result ≡ length_value s.now at k }
 {
-    if k == 1 {
-        return s[at] as usize;
+    match k {
+        1 => usize::from(s[at]),
+        2 => usize::from(s[at + 1]),
+        _ => numbers::be16(s, at + 1),
     }
-    if k == 2 {
-        return s[at + 1] as usize;
-    }
-    numbers::be16(s, at + 1)
 }
 
 // 01: only the shortest form is taken.
-fn read_length(s: &[u8], at: usize) -> Length
-    ensures { result ≡ length_at s.now at }
+#[tactic(auto, using(crate::proofs::Laws::value_below), unfolding(rules::specs::Ber::length_at, rules::specs::Ber::length_in, rules::specs::Bytes::iff))]
+fn read_length(s: &[u8], at: usize) -> Option<Length>
+    ensures read { result ≡ length_at s.now at }
+    ensures inside { IfSome result (λ l. l.next ≤ length s.now) }
 {
-    if s.len() <= at {
-        return Length::Bad;
-    }
-    let k = announced(s[at]);
-    if k == 0 {
-        return Length::Bad;
-    }
+    let k = announced(*s.get(at)?)?;
     if s.len() - at < k {
-        return Length::Bad;
+        return None;
     }
     let len = length_value(s, at, k);
     if length_bytes(len) != k {
-        return Length::Bad;
+        return None;
     }
-    Length::Is { len, next: at + k }
+    Some(Length { len, next: at + k })
 }
 
 // ---- objects
 
-pub fn read_object(s: &[u8], at: usize, tag: u8) -> Found
-    ensures { result ≡ object_at s.now at tag }
+#[tactic(auto, unfolding(rules::specs::Ber::object_at, rules::specs::Ber::value_from, rules::specs::Bytes::iff))]
+pub fn read_object(s: &[u8], at: usize, tag: u8) -> Option<Place>
+    ensures read { result ≡ object_at s.now at tag }
+    ensures inside { IfSome result (λ v. v.from + v.len ≤ length s.now) }
 {
-    if s.len() <= at {
-        return Found::Missing;
+    if *s.get(at)? != tag {
+        return None;
     }
-    if s[at] != tag {
-        return Found::Missing;
-    }
-    let Length::Is { len, next } = read_length(s, at + 1) else {
-        return Found::Missing;
-    };
+    let Length { len, next } = read_length(s, at + 1)?;
     if s.len() - next < len {
-        return Found::Missing;
+        return None;
     }
-    Found::Value { from: next, len }
+    Some(Place { from: next, len })
 }

@@ -1,44 +1,31 @@
--- Obeyed: a command by its checks, once the challenge is dropped.
+-- Obeyed: a command that passes the checks, and one that does not.
 --
---   calm-held                    what is held stays as it was
---   obeyed-failed obeyed-passed  a command by its checks
---   field-few                    the data of a command are at most 255 bytes
+--   calm-held              what is known of a session whose challenge was dropped
+--   obeyed-failed obeyed-passed    what a command comes to, by its checks
 --
 -- Assumes nothing.
-use mathlib.Core.Path.{◌≡◌, ap, sym, ◌∙◌, subst}
-use mathlib.Core.Bool.{true}
-use mathlib.Core.List.{List}
-use Prim.Native.Nat.{ℕ, ◌≤◌}
-use native.Mathlib.Omega.{arith}
-use lib.ListN.{length, length-take}
-use Rattle.rules.specs.declared.Challenge.TheVariants.{Unasked}
+use Rattle.std.proofs.Common.{◌≡◌, true, None, Result, Ok, Err, List, ℕ, ap, sym, ◌∙◌}
+use mathlib.Core.Path.{subst}
+use Rattle.rules.specs.declared.Fault.{Fault}
 use Rattle.rules.specs.declared.Header.{Header}
-use Rattle.rules.specs.declared.Checked.TheVariants.{Passed, Failed}
 use Rattle.rules.specs.declared.Session.{Session}
-use Rattle.rules.specs.Bytes.{part}
+use Rattle.rules.specs.Fault.{word_of, worded}
 use Rattle.rules.specs.Session.{state, with_challenge, possible}
 use Rattle.rules.specs.Command.{field_of, check, says}
 use Rattle.rules.specs.Held.{calm, dropped}
 use Rattle.rules.specs.Calls.{ruled, obeyed, command}
 use Rattle.permit.proofs.Calls.{Held, possible-held}
-use Rattle.apdu.specs.Shape.{Shaped}
 
-pub calm-held : (ss t : Session) → t ≡ with_challenge ss Unasked → possible ss ≡ true → Held t
+pub calm-held : (ss t : Session) → t ≡ with_challenge ss None → possible ss ≡ true → Held t
 calm-held ss t e p =
     let h : Held ss = possible-held ss p in
     subst Held (sym e) (record { few = h.few; rest = h.rest; job = h.job })
 
--- ---- a command by its checks
-
-module _ (m w c : List ℕ) (ss : Session) where
-  pub obeyed-failed : (sw : ℕ) → check ss.contactless c ≡ Failed sw → command (state m w ss) c ≡ says (dropped (state m w (with_challenge ss Unasked))) sw
+module _ (m w c : List ℕ) (ss : Session) (r : Result Header Fault) (e : worded r ≡ check ss.contactless c) where
+  pub obeyed-failed : (f : Fault) → r ≡ Err f → command (state m w ss) c ≡ says (dropped (state m w (with_challenge ss None))) (word_of f)
   unfolding command obeyed calm
-  obeyed-failed sw e = ap (obeyed (state m w (with_challenge ss Unasked)) ss.challenge c) e
+  obeyed-failed f q = ap (obeyed (state m w (with_challenge ss None)) ss.challenge c) (sym e ∙ ap worded q)
 
-  pub obeyed-passed : (h : Header) → check ss.contactless c ≡ Passed h → command (state m w ss) c ≡ ruled (state m w (with_challenge ss Unasked)) ss.challenge h (field_of c h)
+  pub obeyed-passed : (h : Header) → r ≡ Ok h → command (state m w ss) c ≡ ruled (state m w (with_challenge ss None)) ss.challenge h (field_of c h)
   unfolding command obeyed calm
-  obeyed-passed h e = ap (obeyed (state m w (with_challenge ss Unasked)) ss.challenge c) e
-
-pub field-few : (c f : List ℕ) (h : Header) → Shaped c h → f ≡ field_of c h → length f ≤ 255
-unfolding field_of part
-field-few c f h s e = omega (arith, s.few, ap length e ∙ length-take h.lc _)
+  obeyed-passed h q = ap (obeyed (state m w (with_challenge ss None)) ss.challenge c) (sym e ∙ ap worded q)

@@ -7,7 +7,7 @@
 
 mod answers;
 
-ghost use Rattle.std.specs.Prelude.{◌≡◌, true, ◌||◌, List, ℕ, ◌≤◌, eqb, length};
+ghost use Rattle.std.specs.Prelude.{◌≡◌, true, List, ℕ, ◌≤◌, length};
 ghost use Rattle.rules.specs.Store.{well_formed};
 ghost use Rattle.rules.specs.Session.{state, held_length, rest_ok, possible};
 ghost use Rattle.rules.specs.Command.{field_of};
@@ -18,12 +18,14 @@ ghost use Rattle.apdu.specs.Shape.{Shaped};
 
 pub use jobs::job_result;
 pub use power::power_on;
-use rules::{Answer, Challenge, Checked, Header, Permit, Reply, Session};
+use rules::{Answer, Header, Reply, Session, Store, Work};
 
 // ---- SELECT and GET DATA drop what is held first
 
-fn select(s: Session, work: &mut [u8], resp: &mut [u8], h: Header, field: &[u8]) -> Reply
-    requires { (h.le ≤ 256) × (258 ≤ length resp.old) × (held_length s ≤ 13321) × (length work.old ≡ 13321) }
+fn select(s: Session, work: &mut Work, resp: &mut [u8], h: Header, field: &[u8]) -> Reply
+    requires resp { 258 ≤ length resp.old }
+    requires le { h.le ≤ 256 }
+    requires held { held_length s ≤ 13321 }
     ensures { (m : List ℕ) → outcome result m work.new resp.new ≡ (delivered resp.old (select (dropped (state m work.old s)) h field.now)).outcome }
 {
     let t = held::drop_held(s, work);
@@ -32,13 +34,16 @@ fn select(s: Session, work: &mut [u8], resp: &mut [u8], h: Header, field: &[u8])
 
 fn get_data(
     s: Session,
-    store: &[u8],
-    work: &mut [u8],
+    store: &Store,
+    work: &mut Work,
     resp: &mut [u8],
     h: Header,
     field: &[u8],
 ) -> Reply
-    requires { (h.le ≤ 256) × (258 ≤ length resp.old) × (well_formed store.now ≡ true) × (held_length s ≤ 13321) × (length work.old ≡ 13321) }
+    requires resp { 258 ≤ length resp.old }
+    requires le { h.le ≤ 256 }
+    requires well_formed { well_formed store.now ≡ true }
+    requires held { held_length s ≤ 13321 }
     ensures { outcome result store.now work.new resp.new ≡ (delivered resp.old (get_data (dropped (state store.now work.old s)) h field.now)).outcome }
 {
     let t = held::drop_held(s, work);
@@ -48,73 +53,60 @@ fn get_data(
 // ---- which rule answers
 
 // VERIFY, CHANGE REFERENCE DATA and RESET RETRY COUNTER are called from one place: a function with one caller becomes a part of it, and no session is handed over.
-fn on_reference(ins: u8) -> bool
-    ensures { result ≡ (eqb ins 0x20 || (eqb ins 0x24 || eqb ins 0x2C)) }
-{
-    if ins == 0x20 {
-        return true;
-    }
-    if ins == 0x24 {
-        return true;
-    }
-    ins == 0x2C
-}
-
+#[tactic(auto, unfolding(rules::specs::Calls::ruled, pin::specs::Rule::pin_rule, rules::specs::Bytes::iff))]
 fn rule(
-    ch: Challenge,
+    ch: Option<u64>,
     s: Session,
-    store: &mut [u8],
-    work: &mut [u8],
+    store: &mut Store,
+    work: &mut Work,
     resp: &mut [u8],
     h: Header,
     field: &[u8],
 ) -> Reply
-    requires { (h.le ≤ 256) × (258 ≤ length resp.old) × (well_formed store.old ≡ true) × (rest_ok s.rest ≡ true) × (held_length s ≤ 13321) × (length field.now ≤ 255) × (length work.old ≡ 13321) }
+    requires resp { 258 ≤ length resp.old }
+    requires le { h.le ≤ 256 }
+    requires well_formed { well_formed store.old ≡ true }
+    requires rest { rest_ok s.rest ≡ true }
+    requires held { held_length s ≤ 13321 }
+    requires short { length field.now ≤ 255 }
     ensures { outcome result store.new work.new resp.new ≡ (delivered resp.old (ruled (state store.old work.old s) ch h field.now)).outcome }
 {
-    let ins = h.ins;
-    if ins == 0xA4 {
-        return select(s, work, resp, h, field);
+    match h.ins {
+        0xA4 => select(s, work, resp, h, field),
+        0xCB => get_data(s, store, work, resp, h, field),
+        0xC0 => answers::get_response(s, work, resp, h, field),
+        0x20 | 0x24 | 0x2C => pin::command(s, store, work, resp, h, field),
+        0x87 => keys::authenticate(ch, s, store, work, resp, h, field),
+        _ => putting::put_data(s, store, work, resp, h, field),
     }
-    if ins == 0xCB {
-        return get_data(s, store, work, resp, h, field);
-    }
-    if ins == 0xC0 {
-        return answers::get_response(s, work, resp, h, field);
-    }
-    if on_reference(ins) {
-        return pin::command(s, store, work, resp, h, field);
-    }
-    if ins == 0x87 {
-        return keys::authenticate(ch, s, store, work, resp, h, field);
-    }
-    putting::put_data(s, store, work, resp, h, field)
 }
 
 // ---- the call
 
 // The data of a command: that stretch of it.
+#[tactic(auto, unfolding(rules::specs::Command::field_of, rules::specs::Bytes::part))]
 fn field(c: &[u8], h: Header) -> &[u8]
     requires { Shaped c.now h }
-    ensures { result.now ≡ field_of c.now h }
+    ensures field { result.now ≡ field_of c.now h }
+    ensures short { length result.now ≤ 255 }
 {
-    let lc = h.lc;
-    if lc == 0 {
-        return &c[..0];
+    if h.lc == 0 {
+        return &[];
     }
-    parts::part(c, 5, lc)
+    parts::part(c, 5, h.lc)
 }
 
 // Every command drops a held challenge; 87 may compare it first.
-fn obey(session: Session, store: &mut [u8], work: &mut [u8], resp: &mut [u8], cmd: &[u8]) -> Reply
-    requires { (258 ≤ length resp.old) × (well_formed store.old ≡ true) × (possible session ≡ true) × (length work.old ≡ 13321) }
+fn obey(session: Session, store: &mut Store, work: &mut Work, resp: &mut [u8], cmd: &[u8]) -> Reply
+    requires resp { 258 ≤ length resp.old }
+    requires well_formed { well_formed store.old ≡ true }
+    requires possible { possible session ≡ true }
     ensures { outcome result store.new work.new resp.new ≡ (delivered resp.old (command (state store.old work.old session) cmd.now)).outcome }
 {
-    let challenge = session.challenge;
-    let s = session::with_challenge(session, Challenge::Unasked);
+    let s = session::with_challenge(session, None);
     match apdu::check(session.contactless, cmd) {
-        Checked::Failed(sw) => saying::drop_say(s, work, resp, sw),
-        Checked::Passed(h) => rule(challenge, s, store, work, resp, h, field(cmd, h)),
+        Err(fault) => saying::drop_end(s, work, resp, Err(fault)),
+        Ok(h) => rule(session.challenge, s, store, work, resp, h, field(cmd, h)),
     }
 }
 
@@ -133,10 +125,16 @@ pub fn command(
         resp.len(),
         work.len(),
     ) {
-        Permit::Denied(x) => Reply {
-            answer: Answer::Refused(x),
+        Err(refusal) => Reply {
+            answer: Answer::Refused(refusal),
             session,
         },
-        Permit::Granted => obey(session, store, work, resp, cmd),
+        Ok(()) => obey(
+            session,
+            store.as_mut_array().unwrap(),
+            work.as_mut_array().unwrap(),
+            resp,
+            cmd,
+        ),
     }
 }

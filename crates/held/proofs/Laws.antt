@@ -1,7 +1,7 @@
--- Laws: what is held when a chaining command starts, and what its pieces come to.
+-- Laws: what the pieces of a chaining command come to.
 --
 --   piece-bad piece-more piece-last    one piece of a chaining command
---   based-held             what is held when a chaining command starts
+--   piece_one piece_end    the last piece, with no chain open and with one
 --   gathered-part          a last piece put behind the others: all of the chain, in a row
 --   zero_over              and then zeroed with them
 --   closed-state           the state after the last piece of an open chain
@@ -9,7 +9,8 @@
 --   gathered_open gathered-shut    the bytes of the whole command
 --
 -- Assumes nothing.
-use mathlib.Core.Path.{◌≡◌, ap, sym, ◌∙◌}
+use Rattle.std.specs.Prelude.{Option, None, Some}
+use mathlib.Core.Path.{◌≡◌, ap, ap₂, sym, ◌∙◌}
 use mathlib.Core.Bool.{not}
 use mathlib.Core.List.{List, [], ◌++◌, append_assoc}
 use Prim.Native.Nat.{ℕ, ◌+◌, ◌≤◌}
@@ -18,15 +19,13 @@ use lib.ListN.{length, take, drop, length-append, length-take}
 use lib.Seq.{take_at, drop_at}
 use borrow.Author.Tests.{eq-eqb, ne_eqb}
 use Rattle.rules.specs.declared.Chain.{Chain}
-use Rattle.rules.specs.declared.Chain.TheVariants.{Shut, Open}
-use Rattle.rules.specs.declared.Rest.TheVariants.{Gone}
 use Rattle.rules.specs.declared.Session.{Session}
 use Rattle.rules.specs.declared.Header.{Header}
-use Rattle.rules.specs.Bytes.{iff, part, splice, zeros, zeroed}
-use Rattle.rules.specs.Session.{State, state, holding, chain_length, held_length}
+use Rattle.rules.specs.Bytes.{part, splice, zeros, zeroed}
+use Rattle.rules.specs.Session.{State, state, holding, chain_length}
 use Rattle.rules.specs.Command.{Made, says}
-use Rattle.rules.specs.Held.{dropped, goes_on, based, gathered, held_piece, closed_work, closed, piece}
-use Rattle.rules.proofs.Tests.{on, off, either}
+use Rattle.rules.specs.Held.{dropped, gathered, held_piece, closed_work, closed, piece}
+use Rattle.rules.proofs.Tests.{on, off}
 use Rattle.rules.proofs.Lists.{length-zeros}
 
 module _ (w d : List ℕ) (n : ℕ) (h : n + length d ≤ length w) where
@@ -49,22 +48,22 @@ module _ (w d : List ℕ) (n : ℕ) (h : n + length d ≤ length w) where
       ∙ ap (λ (l : List ℕ). [] ++ (z ++ l)) e
       ∙ sym (ap (λ (j : ℕ). [] ++ (z ++ drop j w)) k)
 
-pub closed-state : (m w d : List ℕ) (s : Session) (ins p1 p2 n : ℕ) → s.chain ≡ Open ins p1 p2 n
-    → closed (state m w s) d ≡ state m (splice w 0 (zeros (n + length d))) (holding s Shut Gone)
+pub closed-state : (m w d : List ℕ) (s : Session) (c : Chain) → s.chain ≡ Some c
+    → closed (state m w s) d ≡ state m (splice w 0 (zeros (c.len + length d))) (holding s None None)
 unfolding closed closed_work zeroed
-closed-state m w d s ins p1 p2 n e = ap (λ (c : Chain). state m (closed_work w c (length d)) (holding s Shut Gone)) e
+closed-state m w d s c e = ap (λ (o : Option Chain). state m (closed_work w o (length d)) (holding s None None)) e
 
-pub shut-state : (m w d : List ℕ) (s : Session) → s.chain ≡ Shut → closed (state m w s) d ≡ state m w (holding s Shut Gone)
+pub shut-state : (m w d : List ℕ) (s : Session) → s.chain ≡ None → closed (state m w s) d ≡ state m w (holding s None None)
 unfolding closed closed_work
-shut-state m w d s e = ap (λ (c : Chain). state m (closed_work w c (length d)) (holding s Shut Gone)) e
+shut-state m w d s e = ap (λ (c : Option Chain). state m (closed_work w c (length d)) (holding s None None)) e
 
-pub gathered_open : (m w d : List ℕ) (s : Session) (ins p1 p2 n : ℕ) → s.chain ≡ Open ins p1 p2 n → gathered (state m w s) d ≡ take n w ++ d
+pub gathered_open : (m w d : List ℕ) (s : Session) (c : Chain) → s.chain ≡ Some c → gathered (state m w s) d ≡ take c.len w ++ d
 unfolding gathered
-gathered_open m w d s ins p1 p2 n e = ap (λ (c : Chain). take (chain_length c) w ++ d) e
+gathered_open m w d s c e = ap (λ (c : Option Chain). take (chain_length c) w ++ d) e
 
-pub gathered-shut : (m w d : List ℕ) (s : Session) → s.chain ≡ Shut → gathered (state m w s) d ≡ d
+pub gathered-shut : (m w d : List ℕ) (s : Session) → s.chain ≡ None → gathered (state m w s) d ≡ d
 unfolding gathered
-gathered-shut m w d s e = ap (λ (c : Chain). take (chain_length c) w ++ d) e
+gathered-shut m w d s e = ap (λ (c : Option Chain). take (chain_length c) w ++ d) e
 
 -- ---- a piece
 
@@ -81,10 +80,11 @@ module _ (st : State) (h : Header) (d : List ℕ) (sw : ℕ) (whole : State → 
   unfolding piece
   piece-last e c = off _ _ _ (ap not (eq-eqb sw 0x9000 e)) ∙ off _ _ _ (ne_eqb h.cla 0x10 c)
 
-pub based-held : (m w w' : List ℕ) (s t : Session) (h : Header) → state m w' t ≡ based (state m w s) h → held_length s ≤ 13321 → held_length t ≤ 13321
-unfolding based dropped
-based-held m w w' s t h e l =
-    let st : State = state m w s in
-    let q : held_length (iff (goes_on s.chain h) st (dropped st)).session ≤ 13321 =
-    either (λ (x : State). held_length x.session ≤ 13321) (goes_on s.chain h) {x = st} {y = dropped st} l (omega arith) in
-    omega (arith, ap (λ (x : State). held_length x.session) e, q)
+-- the last piece: a command in one piece, or the end of a chain
+module _ (m w d : List ℕ) (s : Session) (h : Header) (sw : ℕ) (whole : State → List ℕ → Made) (e : sw ≡ 0x9000) (l : h.cla ≡ 0x10 → ⊥) where
+  pub piece_one : s.chain ≡ None → piece (state m w s) h d sw whole ≡ whole (state m w (holding s None None)) d
+  piece_one q = piece-last (state m w s) h d sw whole e l ∙ ap₂ whole (shut-state m w d s q) (gathered-shut m w d s q)
+
+  pub piece_end : (c : Chain) → s.chain ≡ Some c
+      → piece (state m w s) h d sw whole ≡ whole (state m (splice w 0 (zeros (c.len + length d))) (holding s None None)) (take c.len w ++ d)
+  piece_end c q = piece-last (state m w s) h d sw whole e l ∙ ap₂ whole (closed-state m w d s c q) (gathered_open m w d s c q)

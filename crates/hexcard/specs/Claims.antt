@@ -2,7 +2,7 @@
 --
 --   Holds                 the claim, for every buffer of at least 526 bytes
 --
--- The program feeds a line to `keeping::keep`, byte by byte, and answers what is kept at its end. Assumes nothing.
+-- The program answers what is kept of a line, which is what `next` of `crates/feed` gives. Assumes nothing.
 use Rattle.std.specs.Prelude.{◌≡◌, List, ℕ, ◌≤◌, length}
 use Rattle.rules.specs.Session.{State}
 use Rattle.keeping.specs.Keeping.{kept_line}

@@ -2,8 +2,10 @@
 
 #![tactic(auto)]
 
-ghost use Rattle.std.specs.Prelude.{◌≡◌, length};
+ghost use Rattle.std.specs.Prelude.{◌≡◌};
 ghost use Rattle.rules.specs.Claims.Starred.{fixed};
+
+use rules::Store;
 
 // PIN 123456, PUK 12345678, limits 3, all tries left, no keys.
 const HEAD: [u8; 32] = [
@@ -11,8 +13,7 @@ const HEAD: [u8; 32] = [
     0xFF, 0xFF, 0x03, 0x03, 0x31, 0x32, 0x33, 0x34, 0x35, 0x36, 0x37, 0x38, 0x00, 0x00, 0x00, 0x00,
 ];
 
-pub fn fixed_card(store: &mut [u8])
-    requires { length store.old ≡ 33400 }
+pub fn fixed_card(store: &mut Store)
     ensures { store.new ≡ fixed }
 {
     let head = HEAD;

@@ -3,23 +3,24 @@
 
 #![tactic(auto)]
 
-ghost use Rattle.std.specs.Prelude.{◌≡◌, true, false, List, ◌++◌, ℕ, ◌≤◌, length, take};
+ghost use Rattle.std.specs.Prelude.{◌≡◌, Some, true, false, List, ◌++◌, ℕ, ◌≤◌, length, take};
 ghost use Rattle.rules.specs.Ber.{tlv};
-ghost use Rattle.rules.specs.Session.{state, running, job_ok};
+ghost use Rattle.rules.specs.Session.{state};
 ghost use Rattle.rules.specs.Held.{send};
-ghost use Rattle.rules.specs.Keys.{result_fits, challenged, finished};
+ghost use Rattle.rules.specs.Keys.{result_ok, challenged, finished};
 ghost use Rattle.rules.specs.Calls.{outcome, delivered, finishes, call};
 ghost use Rattle.saying.specs.Replies.{sent_reply};
 
-use rules::{Answer, Challenge, Job, Permit, Reply, Session};
+use rules::{Answer, Fault, Job, Reply, Session, Work};
 use saying::Sent;
 
 // ---- a template that goes out
 
 // The two heads of 7C{tag value} for a value of n bytes.
-fn heads(dst: &mut [u8], tag: u8, n: usize) -> usize
-    requires { (n ≤ 256) × (8 ≤ length dst.old) }
-    ensures { (result ≤ 8) × ((v : List ℕ) → length v ≡ n → take result dst.new ++ v ≡ tlv 0x7C (tlv tag v)) }
+fn heads(dst: &mut [u8; 8], tag: u8, n: usize) -> usize
+    requires { n ≤ 256 }
+    ensures few { result ≤ 8 }
+    ensures heads { (v : List ℕ) → length v ≡ n → take result dst.new ++ v ≡ tlv 0x7C (tlv tag v) }
 {
     let inner = 1 + ber::length_bytes(n) + n;
     let at = heads::write_head(dst, 0, 0x7C, inner);
@@ -27,11 +28,13 @@ fn heads(dst: &mut [u8], tag: u8, n: usize) -> usize
 }
 
 // It is not given the session, and promises for every session.
-fn give(work: &mut [u8], resp: &mut [u8], le: usize, tag: u8, v: &[u8]) -> Sent
-    requires { (le ≤ 256) × (258 ≤ length resp.old) × (length v.now ≤ 256) × (length work.old ≡ 13321) }
+fn give(work: &mut Work, resp: &mut [u8], le: usize, tag: u8, v: &[u8]) -> Sent
+    requires resp { 258 ≤ length resp.old }
+    requires le { le ≤ 256 }
+    requires short { length v.now ≤ 256 }
     ensures { (s : Session) (m : List ℕ) → outcome (sent_reply s result) m work.new resp.new ≡ (delivered resp.old (send (state m work.old s) le (tlv 0x7C (tlv tag v.now)))).outcome }
 {
-    let mut head = [0u8; 8];
+    let mut head = [0; 8];
     let n = heads(&mut head, tag, v.len());
     sending::send(work, resp, le, &head[..n], v)
 }
@@ -39,39 +42,38 @@ fn give(work: &mut [u8], resp: &mut [u8], le: usize, tag: u8, v: &[u8]) -> Sent
 // ---- results
 
 // The 16 result bytes are the challenge and the expected reply.
-fn challenged(s: Session, work: &mut [u8], resp: &mut [u8], le: usize, res: &[u8]) -> Reply
-    requires { (le ≤ 256) × (258 ≤ length resp.old) × (length res.now ≡ 16) × (length work.old ≡ 13321) }
+fn challenged(s: Session, work: &mut Work, resp: &mut [u8], le: usize, res: &[u8]) -> Reply
+    requires resp { 258 ≤ length resp.old }
+    requires le { le ≤ 256 }
+    requires sixteen { length res.now ≡ 16 }
     ensures { (m : List ℕ) → outcome result m work.new resp.new ≡ (delivered resp.old (challenged (state m work.old s) le res.now)).outcome }
 {
-    let reply = numbers::be64(res, 8);
-    let t = session::with_challenge(s, Challenge::Awaits { reply });
+    let t = session::with_challenge(s, Some(numbers::be64(res, 8)));
     let sent = give(work, resp, le, 0x81, parts::part(res, 0, 8));
     saying::told(t, sent)
 }
 
-// The caller has seen to it that a job is open; the job is closed, whatever its result.
-fn finish(s: Session, work: &mut [u8], resp: &mut [u8], failed: bool, res: &[u8]) -> Reply
-    requires { (258 ≤ length resp.old) × (length work.old ≡ 13321) × (job_ok s.job ≡ true) × (running s.job ≡ true) × (failed ≡ false → result_fits s.job res.now ≡ true) }
-    ensures { (m : List ℕ) → outcome result m work.new resp.new ≡ (delivered resp.old (finished (state m work.old s) s.job failed res.now)).outcome }
+// The open job is closed, whatever its result.
+fn finish(s: Session, work: &mut Work, resp: &mut [u8], job: Job, failed: bool, res: &[u8]) -> Reply
+    requires resp { 258 ≤ length resp.old }
+    requires le { job.le ≤ 256 }
+    requires fits { failed ≡ false → result_ok job.key job.alg res.now ≡ true }
+    ensures { (m : List ℕ) → outcome result m work.new resp.new ≡ (delivered resp.old (finished (state m work.old s) (Some job) failed res.now)).outcome }
 {
-    let job = s.job;
-    let Job::Running { key, alg: _, le } = job else {
-        return saying::say(s, resp, 0x6F00);
-    };
-    let t = session::with_job(s, Job::Idle);
+    let t = session::with_job(s, None);
     if failed {
-        return saying::say(t, resp, 0x6F00);
+        return saying::end(t, resp, Err(Fault::JobFailed));
     }
-    if key == 0x9B {
-        return challenged(t, work, resp, le, res);
+    if job.key == 0x9B {
+        return challenged(t, work, resp, job.le, res);
     }
-    let sent = give(work, resp, le, 0x82, res);
+    let sent = give(work, resp, job.le, 0x82, res);
     saying::told(t, sent)
 }
 
 // ---- the call
 
-// The result of the open job, or that it failed.
+// The result of the open job, or that it failed; `failed` stands beside the bytes, since the promise holds for a failed job with any bytes (`finishes`).
 pub fn job_result(
     session: Session,
     store: &[u8],
@@ -90,10 +92,17 @@ pub fn job_result(
         failed,
         res.len(),
     ) {
-        Permit::Denied(x) => Reply {
-            answer: Answer::Refused(x),
+        Err(refusal) => Reply {
+            answer: Answer::Refused(refusal),
             session,
         },
-        Permit::Granted => finish(session, work, resp, failed, res),
+        Ok(()) => finish(
+            session,
+            work.as_mut_array().unwrap(),
+            resp,
+            session.job.unwrap(),
+            failed,
+            res,
+        ),
     }
 }

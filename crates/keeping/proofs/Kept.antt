@@ -12,9 +12,11 @@ use mathlib.Core.List.{List, [], ◌∷◌, ◌++◌, append_assoc, append-nil}
 use Prim.Native.Nat.{ℕ, suc, ◌+◌, ◌-◌, ◌%◌, ◌≤◌, ◌<◌}
 use native.Mathlib.Omega.{arith}
 use lib.Dec.{eqb}
-use lib.ListN.{length, take, drop, get_or, length-append, length-take}
+use lib.ListN.{length, take, drop, get_or, length-take}
 use lib.Seq.{take_at, take-suc}
 use borrow.Author.Tests.{lt-ltb, le-ltb}
+use Rattle.std.proofs.Math.Bool.{and_assoc}
+use Rattle.std.proofs.lemmas.List.{length_push}
 use Rattle.rules.specs.Bytes.{iff, all, splice}
 use Rattle.rules.proofs.Tests.{on, off, by_order, and_left, and_end, and_off_left, and_off_right}
 use Rattle.rules.proofs.Lists.{length-splice}
@@ -27,26 +29,19 @@ pub data Kin (m : ℕ) (p a : List ℕ) : Type 0 where
 
 -- ---- rows
 
-and_assoc : (a b c : Bool) → (a && (b && c)) ≡ ((a && b) && c)
-and_assoc true b c = refl
-and_assoc false b c = refl
-
 all_append : (a b : List ℕ) → all is_digit (a ++ b) ≡ (all is_digit a && all is_digit b)
 all_append [] b = refl
-all_append (x ∷ a) b = ap (λ (t : Bool). is_digit x && t) (all_append a b) ∙ and_assoc (is_digit x) (all is_digit a) (all is_digit b)
+all_append (x ∷ a) b = ap (λ (t : Bool). is_digit x && t) (all_append a b) ∙ sym (and_assoc (is_digit x) (all is_digit a) (all is_digit b))
 
 all_one : (a : List ℕ) (b : ℕ) → all is_digit (a ++ (b ∷ [])) ≡ (all is_digit a && is_digit b)
 all_one a b = all_append a (b ∷ []) ∙ ap (λ (t : Bool). all is_digit a && t) (and_end (is_digit b))
-
-length_one : (a : List ℕ) (b : ℕ) → length (a ++ (b ∷ [])) ≡ length a + 1
-length_one a b = length-append a (b ∷ [])
 
 -- a byte stored behind the first n
 take-stored : (s : List ℕ) (n b : ℕ) → n < length s → take (n + 1) (splice s n (b ∷ [])) ≡ take n s ++ (b ∷ [])
 unfolding splice
 take-stored s n b h =
     ap (take (n + 1)) (sym (append_assoc (take n s) (b ∷ []) (drop (n + 1) s)))
-    ∙ take_at (take n s ++ (b ∷ [])) (drop (n + 1) s) (n + 1) (omega (arith, length_one (take n s) b, length-take n s))
+    ∙ take_at (take n s ++ (b ∷ [])) (drop (n + 1) s) (n + 1) (omega (arith, length_push (take n s) b, length-take n s))
 
 -- the last byte of a full buffer
 last_apart : (s : List ℕ) (n : ℕ) → n ≡ length s → 1 ≤ n → take n s ≡ take (n - 1) s ++ (get_or s (n - 1) 0 ∷ [])
@@ -69,9 +64,9 @@ kin_even (long x y e v) t = v t
 kin_more : {m : ℕ} {p a : List ℕ} → Kin m p a → (b : ℕ) → Kin m (p ++ (b ∷ [])) (a ++ (b ∷ []))
 kin_more (itself e) b = itself (ap (λ (l : List ℕ). l ++ (b ∷ [])) e)
 kin_more {m} {p} {a} (long x y e v) b =
-    long (omega (arith, length_one a b)) (omega (arith, length_one p b))
+    long (omega (arith, length_push a b)) (omega (arith, length_push p b))
     (all_one a b ∙ ap (λ (t : Bool). t && is_digit b) e ∙ sym (all_one p b))
-    (λ t. omega (arith, length_one a b, length_one p b, v (and_left (all is_digit p) (is_digit b) (sym (all_one p b) ∙ t))))
+    (λ t. omega (arith, length_push a b, length_push p b, v (and_left (all is_digit p) (is_digit b) (sym (all_one p b) ∙ t))))
 
 -- ---- one byte more
 
@@ -90,7 +85,7 @@ module _ (m n b : ℕ) (s p : List ℕ) (size : length s ≡ m) (two : 2 ≤ m) 
   apart = ap (all is_digit) (last_apart s n (omega arith) (omega arith)) ∙ all_one (take (n - 1) s) (get_or s (n - 1) 0)
 
   long_line : m ≤ length (p ++ (b ∷ []))
-  long_line = omega (arith, length_one p b, kin_long kin (omega (arith, length-take n s)))
+  long_line = omega (arith, length_push p b, kin_long kin (omega (arith, length-take n s)))
 
   shortened : is_digit b ≡ true → is_digit last ≡ true → Next m (p ++ (b ∷ [])) (kept (n - 1) s)
   shortened x y = record {
@@ -99,7 +94,7 @@ module _ (m n b : ℕ) (s p : List ℕ) (size : length s ≡ m) (two : 2 ≤ m) 
     kin = long (omega (arith, length-take (n - 1) s)) long_line
         (sym (and_end (all is_digit (take (n - 1) s))) ∙ ap (λ (t : Bool). all is_digit (take (n - 1) s) && t) (sym y) ∙ sym apart ∙ kin_all kin
         ∙ sym (all_one p b ∙ ap (λ (t : Bool). all is_digit p && t) x ∙ and_end (all is_digit p)))
-        (λ t. omega (arith, length-take n s, length-take (n - 1) s, length_one p b, kin_even kin (and_left (all is_digit p) (is_digit b) (sym (all_one p b) ∙ t))));
+        (λ t. omega (arith, length-take n s, length-take (n - 1) s, length_push p b, kin_even kin (and_left (all is_digit p) (is_digit b) (sym (all_one p b) ∙ t))));
   }
 
   none : all is_digit (take n (splice s 0 (0 ∷ []))) ≡ false

@@ -1,19 +1,27 @@
--- Replies: what a host is told of a whole GENERAL AUTHENTICATE.
+-- Replies: what a whole GENERAL AUTHENTICATE comes to, as the code finds it before anything is written.
 --
---   auth_reply ss x        the command did x in the session ss
+--   auth_made st r        it came to r in the state st
+--   ShortData a           the data of a job that is opened are at most 256 bytes
 --
 -- Assumes nothing.
-use Rattle.rules.specs.declared.Answer.TheVariants.{Response, JobOpened}
-use Rattle.rules.specs.declared.Job.TheVariants.{Running}
-use Rattle.rules.specs.declared.Reply.{Reply}
-use Rattle.rules.specs.declared.Session.{Session}
-use Rattle.rules.specs.Session.{with_admin, with_job}
-use Rattle.rules.specs.Calls.{reply}
+use Rattle.std.specs.Prelude.{Result, Ok, Err, true, false, ◌≤◌, length}
+use Rattle.rules.specs.declared.Fault.{Fault}
+use Rattle.rules.specs.Fault.{word_of}
+use Rattle.rules.specs.Session.{State, in_session, with_admin}
+use Rattle.rules.specs.Command.{Made, says}
+use Rattle.rules.specs.Keys.{opened}
 use Rattle.keys.specs.declared.template.Auth.{Auth}
-use Rattle.keys.specs.declared.template.Auth.TheVariants.{Said, Knows, Opens}
+use Rattle.keys.specs.declared.template.Auth.TheVariants.{Known, Unknown, Opens}
 
--- a status word alone; one with the administrator's status; a job, its key, its algorithm, the expected length and its number of bytes
-abbrev pub auth_reply : Session → Auth → Reply
-auth_reply ss Said = reply (Response 2) ss
-auth_reply ss (Knows b) = reply (Response 2) (with_admin ss b)
-auth_reply ss (Opens key alg le n) = reply (JobOpened key alg n) (with_job ss (Running key alg le))
+-- a fault's word alone; the administrator's status with 9000 or 6982; a job and its data
+abbrev pub auth_made : State → Result Auth Fault → Made
+auth_made st (Err f) = says st (word_of f)
+auth_made st (Ok Known) = says (in_session st (with_admin st.session true)) 0x9000
+auth_made st (Ok Unknown) = says (in_session st (with_admin st.session false)) 0x6982
+auth_made st (Ok (Opens j d)) = opened st j.key j.alg j.le d.now
+
+-- a job's data fit the response buffer
+abbrev pub ShortData : Auth → Type 0
+ShortData Known = Unit {0}
+ShortData Unknown = Unit {0}
+ShortData (Opens j d) = length d.now ≤ 256

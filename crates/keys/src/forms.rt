@@ -1,101 +1,97 @@
 // The forms of GENERAL AUTHENTICATE's template 7C: what the administrator's says, and where the data for a key stand
 // (01, "GENERAL AUTHENTICATE"). A value read either is there or ends the command with 6A80.
-ghost use Rattle.std.specs.Prelude.{◌≡◌, ◌+◌, ◌≤◌, length};
+ghost use Rattle.std.specs.Prelude.{◌≡◌, ◌+◌, ◌≤◌, ℕ, List, ⊤, length, IfSome};
 ghost use Rattle.rules.specs.Ber.{last_at};
 ghost use Rattle.reader.specs.Read.{behind_first};
 ghost use Rattle.rules.specs.Keys.{challenge_in, reply_in, admin_form, data_tag, data_ok, data_in, key_form};
+ghost use Rattle.keys.specs.Forms.{ReplyInside};
 
-use rules::{Admin, Found};
+use rules::{Admin, Place};
 
 // 81 empty, or 82 and eight bytes, and no more.
-pub fn admin_form(t: &[u8]) -> Admin
-    ensures { result ≡ admin_form t.now }
+#[tactic(auto, unfolding(rules::specs::Keys::admin_form, rules::specs::Bytes::iff))]
+pub fn admin_form(t: &[u8]) -> Option<Admin>
+    ensures form { result ≡ admin_form t.now }
+    ensures inside { IfSome result (ReplyInside t.now) }
 {
-    if t.len() == 0 {
-        return Admin::NoForm;
+    match t.first() {
+        Some(0x81) => challenge_form(t),
+        _ => reply_form(t),
     }
-    if t[0] == 0x81 {
-        return challenge_form(t);
-    }
-    reply_form(t)
 }
 
-fn challenge_form(t: &[u8]) -> Admin
-    ensures { result ≡ challenge_in (last_at t.now 0 0x81) }
+#[tactic(auto, unfolding(rules::specs::Keys::challenge_in, rules::specs::Bytes::iff))]
+fn challenge_form(t: &[u8]) -> Option<Admin>
+    ensures form { result ≡ challenge_in (last_at t.now 0 0x81) }
+    ensures inside { IfSome result (ReplyInside t.now) }
 {
-    let Found::Value { from: _, len } = reader::only(t, 0x81) else {
-        return Admin::NoForm;
-    };
-    if len == 0 {
-        return Admin::GiveChallenge;
+    let value = reader::only(t, 0x81)?;
+    if value.len != 0 {
+        return None;
     }
-    Admin::NoForm
+    Some(Admin::GiveChallenge)
 }
 
-fn reply_form(t: &[u8]) -> Admin
-    ensures { result ≡ reply_in (last_at t.now 0 0x82) }
+#[tactic(auto, unfolding(rules::specs::Keys::reply_in, rules::specs::Bytes::iff))]
+fn reply_form(t: &[u8]) -> Option<Admin>
+    ensures form { result ≡ reply_in (last_at t.now 0 0x82) }
+    ensures inside { IfSome result (ReplyInside t.now) }
 {
-    let Found::Value { from, len } = reader::only(t, 0x82) else {
-        return Admin::NoForm;
-    };
-    if len == 8 {
-        return Admin::Reply { from };
+    let value = reader::only(t, 0x82)?;
+    if value.len != 8 {
+        return None;
     }
-    Admin::NoForm
+    Some(Admin::Reply { from: value.from })
 }
 
 // 9D with 11 takes a point (85) instead of data (81).
+#[tactic(auto, unfolding(rules::specs::Keys::data_tag, rules::specs::Bytes::iff))]
 fn data_tag(key: u8, alg: u8) -> u8
     ensures { result ≡ data_tag key alg }
 {
-    if key != 0x9D {
-        return 0x81;
+    match (key, alg) {
+        (0x9D, 0x11) => 0x85,
+        _ => 0x81,
     }
-    if alg != 0x11 {
-        return 0x81;
-    }
-    0x85
 }
 
 // 256 data bytes for 07, 32 for 11; for 9D with 11 they are 04 and 64 bytes.
-fn data_ok(key: u8, alg: u8, t: &[u8], from: usize, n: usize) -> bool
-    requires { from + n ≤ length t.now }
-    ensures { result ≡ data_ok key alg t.now from n }
+#[tactic(auto, unfolding(rules::specs::Keys::data_ok, rules::specs::Bytes::iff))]
+fn data_ok(key: u8, alg: u8, t: &[u8], v: Place) -> bool
+    requires { v.from + v.len ≤ length t.now }
+    ensures { result ≡ data_ok key alg t.now v.from v.len }
 {
-    if alg == 0x07 {
-        return n == 256;
+    match (key, alg) {
+        (_, 0x07) => v.len == 256,
+        (0x9D, _) => v.len == 65 && t[v.from] == 0x04,
+        _ => v.len == 32,
     }
-    if key == 0x9D {
-        if n != 65 {
-            return false;
-        }
-        return t[from] == 0x04;
-    }
-    n == 32
 }
 
 // 82 empty, then the data, which end the template.
-pub fn key_form(key: u8, alg: u8, t: &[u8]) -> Found
-    ensures { result ≡ key_form key alg t.now }
+#[tactic(auto, unfolding(rules::specs::Keys::key_form, rules::specs::Keys::data_after, reader::specs::Read::behind_first, rules::specs::Bytes::iff))]
+pub fn key_form(key: u8, alg: u8, t: &[u8]) -> Option<Place>
+    ensures form { result ≡ key_form key alg t.now }
+    ensures inside { IfSome result (λ v. v.from + v.len ≤ length t.now) }
+    ensures short { IfSome result (λ v. v.len ≤ 256) }
 {
-    let Found::Value { from: _, len } = reader::first(t, 0x82) else {
-        return Found::Missing;
-    };
-    if len != 0 {
-        return Found::Missing;
+    let empty = reader::first(t, 0x82)?;
+    if empty.len != 0 {
+        return None;
     }
     data_form(key, alg, t)
 }
 
 // The data behind 82.
-fn data_form(key: u8, alg: u8, t: &[u8]) -> Found
-    ensures { result ≡ data_in key alg t.now (last_at t.now (behind_first t.now 0x82) (data_tag key alg)) }
+#[tactic(auto, unfolding(rules::specs::Keys::data_in, rules::specs::Keys::data_ok, rules::specs::Bytes::iff))]
+fn data_form(key: u8, alg: u8, t: &[u8]) -> Option<Place>
+    ensures form { result ≡ data_in key alg t.now (last_at t.now (behind_first t.now 0x82) (data_tag key alg)) }
+    ensures inside { IfSome result (λ v. v.from + v.len ≤ length t.now) }
+    ensures short { IfSome result (λ v. v.len ≤ 256) }
 {
-    let Found::Value { from, len } = reader::last(t, 0x82, data_tag(key, alg)) else {
-        return Found::Missing;
-    };
-    if !data_ok(key, alg, t, from, len) {
-        return Found::Missing;
+    let data = reader::last(t, 0x82, data_tag(key, alg))?;
+    if !data_ok(key, alg, t, data) {
+        return None;
     }
-    Found::Value { from, len }
+    Some(data)
 }

@@ -1,141 +1,134 @@
 // What a whole GENERAL AUTHENTICATE comes to (01, under this name): the template 7C, the administrator's reply, the jobs that are opened.
-// What goes out is written first, by functions that are not given the session and promise for every session; `told` says what the host learns.
-ghost use Rattle.std.specs.Prelude.{◌≡◌, List, ℕ, ◌≤◌, length};
-ghost use Rattle.rules.specs.declared.Session.{Session};
-ghost use Rattle.rules.specs.Session.{state, in_session, with_admin};
-ghost use Rattle.rules.specs.Command.{says};
-ghost use Rattle.rules.specs.Keys.{admin_form, key_form, replied, opened, auth_admin, auth_key, auth_in, auth_whole};
+// It is found first, by functions that are given neither the session nor a buffer and promise for every state; `answer` writes it.
+ghost use Rattle.std.specs.Prelude.{◌≡◌, Ok, List, ℕ, ◌≤◌, length, IfOk};
+ghost use Rattle.rules.specs.Session.{State, state, with_admin};
+ghost use Rattle.rules.specs.Keys.{admin_form, key_form, replied, auth_admin, auth_key, auth_in, auth_whole};
 ghost use Rattle.rules.specs.Calls.{outcome, delivered};
-ghost use Rattle.keys.specs.Replies.{auth_reply};
+ghost use Rattle.keys.specs.Replies.{auth_made, ShortData};
 
 use super::forms;
-use rules::{Admin, Answer, Challenge, Found, Header, Job, Reply, Session};
+use rules::{Admin, Answer, Fault, Header, Job, Reply, Session};
 
-// What the command did: a status word went out, alone or with the administrator's status, or a job was opened and its data went out.
+// What the command comes to where it is not a fault: the administrator is known now, or is not, or a job is opened.
 #[derive(Clone, Copy)]
-pub enum Auth {
-    Said,
-    Knows {
-        admin: bool,
-    },
-    Opens {
-        key: u8,
-        alg: u8,
-        le: usize,
-        len: usize,
-    },
-}
-
-fn says(resp: &mut [u8], sw: u16) -> Auth
-    requires { 258 ≤ length resp.old }
-    ensures { (s : Session) (m w : List ℕ) → outcome (auth_reply s result) m w resp.new ≡ (delivered resp.old (says (state m w s) sw)).outcome }
-{
-    octets::put_word(resp, 0, sw);
-    Auth::Said
-}
-
-fn knows(resp: &mut [u8], admin: bool, sw: u16) -> Auth
-    requires { 258 ≤ length resp.old }
-    ensures { (s : Session) (m w : List ℕ) → outcome (auth_reply s result) m w resp.new ≡ (delivered resp.old (says (in_session (state m w s) (with_admin s admin)) sw)).outcome }
-{
-    octets::put_word(resp, 0, sw);
-    Auth::Knows { admin }
+pub enum Auth<'a> {
+    Known,
+    Unknown,
+    Opens { job: Job, input: &'a [u8] },
 }
 
 // The two replies are compared as one number each.
-fn replied(ch: Challenge, resp: &mut [u8], reply: u64) -> Auth
-    requires { 258 ≤ length resp.old }
-    ensures { (s : Session) (m w : List ℕ) → outcome (auth_reply s result) m w resp.new ≡ (delivered resp.old (replied (state m w s) ch reply)).outcome }
+#[tactic(auto, unfolding(rules::specs::Keys::replied, rules::specs::Bytes::iff))]
+fn replied<'a>(ch: Option<u64>, reply: u64) -> Result<Auth<'a>, Fault>
+    ensures made { (st : State) → auth_made st result ≡ replied st ch reply }
+    ensures short { IfOk result ShortData }
 {
-    let Challenge::Awaits { reply: expected } = ch else {
-        return says(resp, 0x6985);
-    };
-    if expected == reply {
-        return knows(resp, true, 0x9000);
-    }
-    knows(resp, false, 0x6982)
-}
-
-// A job is opened: the host finds its data in the response buffer.
-fn opened(resp: &mut [u8], key: u8, alg: u8, le: usize, d: &[u8]) -> Auth
-    requires { (258 ≤ length resp.old) × (length d.now ≤ 256) }
-    ensures { (s : Session) (m w : List ℕ) → outcome (auth_reply s result) m w resp.new ≡ (delivered resp.old (opened (state m w s) key alg le d.now)).outcome }
-{
-    octets::put(resp, 0, d);
-    Auth::Opens {
-        key,
-        alg,
-        le,
-        len: d.len(),
+    match ch {
+        None => Err(Fault::NothingHeld),
+        Some(expected) if expected == reply => Ok(Auth::Known),
+        Some(_) => Ok(Auth::Unknown),
     }
 }
 
 // A job for a challenge has no data.
-fn auth_admin(ch: Challenge, resp: &mut [u8], le: usize, t: &[u8]) -> Auth
-    requires { 258 ≤ length resp.old }
-    ensures { (s : Session) (m w : List ℕ) → outcome (auth_reply s result) m w resp.new ≡ (delivered resp.old (auth_admin ch (state m w s) le t.now (admin_form t.now))).outcome }
+#[tactic(auto, unfolding(rules::specs::Keys::auth_admin))]
+fn auth_admin<'a>(ch: Option<u64>, le: usize, t: &'a [u8]) -> Result<Auth<'a>, Fault>
+    ensures made { (st : State) → auth_made st result ≡ auth_admin ch st le t.now (admin_form t.now) }
+    ensures short { IfOk result ShortData }
 {
-    match forms::admin_form(t) {
-        Admin::GiveChallenge => return opened(resp, 0x9B, 0x00, le, parts::part(t, 0, 0)),
-        Admin::Reply { from } => return replied(ch, resp, numbers::be64(t, from)),
-        Admin::NoForm => return says(resp, 0x6A80),
+    match forms::admin_form(t).ok_or(Fault::WrongData)? {
+        Admin::GiveChallenge => {
+            let job = Job {
+                key: 0x9B,
+                alg: 0x00,
+                le,
+            };
+            Ok(Auth::Opens {
+                job,
+                input: &t[..0],
+            })
+        }
+        Admin::Reply { from } => replied(ch, numbers::be64(t, from)),
     }
 }
 
-fn auth_key(resp: &mut [u8], h: Header, t: &[u8]) -> Auth
-    requires { 258 ≤ length resp.old }
-    ensures { (s : Session) (m w : List ℕ) → outcome (auth_reply s result) m w resp.new ≡ (delivered resp.old (auth_key (state m w s) h t.now (key_form h.p2 h.p1 t.now))).outcome }
+#[tactic(auto, unfolding(rules::specs::Keys::auth_key))]
+fn auth_key<'a>(h: Header, t: &'a [u8]) -> Result<Auth<'a>, Fault>
+    ensures made { (st : State) → auth_made st result ≡ auth_key st h t.now (key_form h.p2 h.p1 t.now) }
+    ensures short { IfOk result ShortData }
 {
-    let Found::Value { from, len } = forms::key_form(h.p2, h.p1, t) else {
-        return says(resp, 0x6A80);
+    let data = forms::key_form(h.p2, h.p1, t).ok_or(Fault::WrongData)?;
+    let job = Job {
+        key: h.p2,
+        alg: h.p1,
+        le: h.le,
     };
-    opened(resp, h.p2, h.p1, h.le, parts::part(t, from, len))
+    Ok(Auth::Opens {
+        job,
+        input: parts::part(t, data.from, data.len),
+    })
 }
 
-fn auth_in(ch: Challenge, resp: &mut [u8], h: Header, t: &[u8]) -> Auth
-    requires { 258 ≤ length resp.old }
-    ensures { (s : Session) (m w : List ℕ) → outcome (auth_reply s result) m w resp.new ≡ (delivered resp.old (auth_in ch h (state m w s) t.now)).outcome }
+#[tactic(auto, unfolding(rules::specs::Keys::auth_in, rules::specs::Bytes::iff))]
+fn auth_in<'a>(ch: Option<u64>, h: Header, t: &'a [u8]) -> Result<Auth<'a>, Fault>
+    ensures made { (st : State) → auth_made st result ≡ auth_in ch h st t.now }
+    ensures short { IfOk result ShortData }
 {
     if h.p2 == 0x9B {
-        return auth_admin(ch, resp, h.le, t);
+        auth_admin(ch, h.le, t)
+    } else {
+        auth_key(h, t)
     }
-    auth_key(resp, h, t)
 }
 
 // The template 7C is all of the data.
-pub fn whole(ch: Challenge, resp: &mut [u8], h: Header, d: &[u8]) -> Auth
-    requires { 258 ≤ length resp.old }
-    ensures { (s : Session) (m w : List ℕ) → outcome (auth_reply s result) m w resp.new ≡ (delivered resp.old (auth_whole ch h (state m w s) d.now)).outcome }
+#[tactic(auto, unfolding(rules::specs::Keys::auth_whole, rules::specs::Keys::auth_form, rules::specs::Keys::contents))]
+pub fn whole<'a>(ch: Option<u64>, h: Header, d: &'a [u8]) -> Result<Auth<'a>, Fault>
+    ensures made { (st : State) → auth_made st result ≡ auth_whole ch h st d.now }
+    ensures short { IfOk result ShortData }
 {
-    let Found::Value { from, len } = reader::only(d, 0x7C) else {
-        return says(resp, 0x6A80);
-    };
-    auth_in(ch, resp, h, parts::part(d, from, len))
+    let value = reader::only(d, 0x7C).ok_or(Fault::WrongData)?;
+    auth_in(ch, h, parts::part(d, value.from, value.len))
 }
 
-fn with_admin(s: Session, known: bool) -> Session
-    ensures { result ≡ with_admin s known }
+fn with_admin(s: Session, admin: bool) -> Session
+    ensures { result ≡ with_admin s admin }
 {
-    let mut n = s;
-    n.admin = known;
-    n
+    Session { admin, ..s }
 }
 
-pub fn told(s: Session, x: Auth) -> Reply
-    ensures { result ≡ auth_reply s x }
+// The host learns whether it is known, or finds the job's data in the response buffer.
+#[tactic(auto, unfolding(rules::specs::Keys::opened, rules::specs::Calls::delivered, rules::specs::Calls::told_bytes, rules::specs::Calls::told_answer))]
+fn done(s: Session, resp: &mut [u8], auth: Auth<'_>) -> Reply
+    requires resp { 258 ≤ length resp.old }
+    requires short { ShortData auth }
+    ensures { (m w : List ℕ) → outcome result m w resp.new ≡ (delivered resp.old (auth_made (state m w s) (Ok auth.entry))).outcome }
 {
-    match x {
-        Auth::Said => Reply {
-            answer: Answer::Response { len: 2 },
-            session: s,
-        },
-        Auth::Knows { admin } => Reply {
-            answer: Answer::Response { len: 2 },
-            session: with_admin(s, admin),
-        },
-        Auth::Opens { key, alg, le, len } => Reply {
-            answer: Answer::JobOpened { key, alg, len },
-            session: session::with_job(s, Job::Running { key, alg, le }),
-        },
+    match auth {
+        Auth::Known => saying::end(with_admin(s, true), resp, Ok(())),
+        Auth::Unknown => saying::end(with_admin(s, false), resp, Err(Fault::NotAllowed)),
+        Auth::Opens { job, input } => {
+            octets::put(resp, 0, input);
+            Reply {
+                answer: Answer::JobOpened {
+                    key: job.key,
+                    alg: job.alg,
+                    len: input.len(),
+                },
+                session: session::with_job(s, Some(job)),
+            }
+        }
+    }
+}
+
+// A fault's status word goes out alone.
+pub fn answer(s: Session, resp: &mut [u8], said: Result<Auth<'_>, Fault>) -> Reply
+    requires resp { 258 ≤ length resp.old }
+    requires short { IfOk said ShortData }
+    ensures { (m w : List ℕ) → outcome result m w resp.new ≡ (delivered resp.old (auth_made (state m w s) said.entry)).outcome }
+{
+    match said {
+        Ok(auth) => done(s, resp, auth),
+        Err(fault) => saying::end(s, resp, Err(fault)),
     }
 }

@@ -27,21 +27,14 @@ pub struct Said {
 pub fn first(s: &[u8], k: usize) -> &[u8]
     ensures { result.now ≡ take k s.now }
 {
-    if k < s.len() {
-        return &s[..k];
-    }
-    s
+    s.get(..k).unwrap_or(s)
 }
 
 // What stands behind the first n bytes; nothing where there are fewer.
 pub fn after(s: &[u8], n: usize) -> &[u8]
     ensures { result.now ≡ drop n s.now }
 {
-    if n < s.len() {
-        return &s[n..];
-    }
-    let end = s.len();
-    &s[end..]
+    s.get(n..).unwrap_or_default()
 }
 
 // "bad line", and the card as it was.
@@ -49,7 +42,6 @@ pub fn bad(session: Session, out: &mut [u8]) -> Said
     requires { 9 ≤ length out.old }
     ensures { (s w p : List ℕ) → seen result.session s w p result.len out.new ≡ tells (state s w session) p bad_line out.old }
 {
-    let bad = [98, 97, 100, 32, 108, 105, 110, 101, 10];
-    octets::put(out, 0, &bad);
+    octets::put(out, 0, b"bad line\n");
     Said { session, len: 9 }
 }

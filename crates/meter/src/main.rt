@@ -4,135 +4,124 @@
 
 #![tactic(auto)]
 
-ghost use Rattle.std.specs.Prelude.{◌≡◌, ◌≤◌, ◌<◌, length, IfOk};
+ghost use Rattle.std.specs.Prelude.{◌≡◌, ◌≤◌, ◌<◌, length, IfOk, IfSome};
 
 use rules::Session;
 use std::io;
 use std::io::Read;
 
+const MODULUS: u64 = 4294967291;
+
 // The first two bytes of the response buffer count, in which a short answer has its status word.
-fn added(resp: &[u8], sum: u64) -> u64
-    requires { (2 ≤ length resp.now) × (sum < 4294967291) }
-    ensures { result < 4294967291 }
+fn added(resp: &[u8; 258], sum: u64) -> u64
+    requires { sum < MODULUS }
+    ensures { result < MODULUS }
 {
-    let word = numbers::be16(resp, 0);
-    (sum * 257 + (word % 65536) as u64) % 4294967291
+    let word = u16::from_be_bytes([resp[0], resp[1]]);
+    (sum * 257 + u64::from(word)) % MODULUS
 }
 
-fn make(
-    s: Session,
-    store: &mut [u8],
-    work: &mut [u8],
-    resp: &mut [u8],
-    kind: u8,
-    bytes: &[u8],
-) -> Session {
-    if kind == 0 {
-        let r = card::command(s, store, work, resp, bytes);
-        return r.session;
-    }
-    let r = card::job_result(s, store, work, resp, false, bytes);
-    r.session
+// A call of the script, with its bytes.
+#[derive(Clone, Copy)]
+enum Call<'a> {
+    Command(&'a [u8]),
+    Result(&'a [u8]),
 }
 
-// The first bytes once, and then the others n times: in one loop over the calls, between which no session is handed over.
-fn play(
-    session: Session,
-    store: &mut [u8],
-    work: &mut [u8],
-    resp: &mut [u8],
-    script: &[u8],
-    once: usize,
-    n: u32,
-) -> u64
-    requires { (2 ≤ length resp.old) × (once ≤ length script.now) × (n < 16777216) }
+// The first call of a script, and what stands behind it. None where the script is cut short.
+fn first_call(script: &[u8]) -> Option<(Call<'_>, &[u8])>
+    ensures { IfSome result (λ r. length r.1.now < length script.now) }
 {
-    let mut s = session;
-    let mut sum = 0;
-    let mut at = 0;
-    let mut end = once;
-    let mut i = 0;
-    while i <= n {
-        while at < end {
-            if end - at < 3 {
-                return sum;
-            }
-            let k = numbers::be16(script, at + 1);
-            let from = at + 3;
-            if end - from < k {
-                return sum;
-            }
-            let next = from + k;
-            s = make(s, store, work, resp, script[at], &script[from..next]);
-            sum = added(resp, sum);
-            at = next;
+    let (head, rest) = script.split_at_checked(3)?;
+    let (bytes, behind) = rest.split_at_checked(numbers::be16(head, 1))?;
+    let call = if head[0] == 0 {
+        Call::Command(bytes)
+    } else {
+        Call::Result(bytes)
+    };
+    Some((call, behind))
+}
+
+// What the card is lent. The session is no part of it: by value it costs a call some hundred instructions less.
+#[derive(Drop)]
+struct Desk {
+    store: [u8; 33400],
+    work: [u8; 13321],
+    resp: [u8; 258],
+}
+
+impl Desk {
+    // 01's fixed card, with an RSA key 9A and 9E and a P-256 key 9C and 9D.
+    fn new() -> Self {
+        let mut store = [0; 33400];
+        issued::fixed_card(&mut store);
+        octets::put(&mut store, 28, &[0x07, 0x11, 0x11, 0x07]);
+        Desk {
+            store,
+            work: [0; 13321],
+            resp: [0; 258],
         }
-        at = once;
-        end = script.len();
-        i += 1;
     }
-    sum
-}
 
-fn least(a: usize, b: usize) -> usize
-    ensures { result ≤ b }
-{
-    if a < b {
-        return a;
+    fn call(&mut self, s: Session, call: Call<'_>) -> Session {
+        let Desk { store, work, resp } = self;
+        match call {
+            Call::Command(bytes) => {
+                let r = card::command(s, store, work, resp, bytes);
+                r.session
+            }
+            Call::Result(bytes) => {
+                let r = card::job_result(s, store, work, resp, false, bytes);
+                r.session
+            }
+        }
     }
-    b
-}
 
-fn run(session: Session, store: &mut [u8], work: &mut [u8], resp: &mut [u8], script: &[u8]) -> u64
-    requires { 2 ≤ length resp.old }
-{
-    if script.len() < 6 {
-        return 0;
+    // The first bytes once, and then the others n times, until a call is cut short: in one loop over the calls, between which no session is handed over.
+    fn play(&mut self, first: &[u8], each: &[u8], n: u32) -> u64 {
+        let mut s = card::power_on(&self.store, &mut self.work, false).session;
+        let mut sum = 0;
+        let mut rest = first;
+        for _ in 0..=n {
+            while let Some((call, behind)) = first_call(rest) {
+                s = self.call(s, call);
+                sum = added(&self.resp, sum);
+                rest = behind;
+            }
+            if !rest.is_empty() {
+                break;
+            }
+            rest = each;
+        }
+        sum
     }
-    let n = numbers::be24(script, 1) % 16777216;
-    let calls = &script[6..];
-    let once = least(numbers::be16(script, 4), calls.len());
-    play(session, store, work, resp, calls, once, n)
+
+    fn run(&mut self, script: &[u8]) -> u64 {
+        let Some((head, calls)) = script.split_at_checked(6) else {
+            return 0;
+        };
+        let (first, each) = calls.split_at(numbers::be16(head, 4).min(calls.len()));
+        self.play(first, each, numbers::be24(head, 1))
+    }
 }
 
-// 01's fixed card, with an RSA key 9A and 9E and a P-256 key 9C and 9D.
-fn issue(store: &mut [u8])
-    requires { length store.old ≡ 33400 }
-{
-    issued::fixed_card(store);
-    let keys = [0x07, 0x11, 0x11, 0x07];
-    octets::put(store, 28, &keys);
-}
-
-// Reads until the buffer is full or the input ends, and says how many bytes it put at its start. A read that fails ends the program with the error.
+// Reads until the buffer is full or the input ends, and says how many bytes it put at its start (std reads to the end on the heap alone). A read that fails ends the program with the error.
 fn fill(rt: &HostRuntime, buffer: &mut [u8; 65536]) -> io::Result<usize>
     ensures { IfOk result (λ n. n ≤ 65536) }
 {
     let mut done = 0;
-    while done < 65536 {
-        let n = rt.stdin().read(&mut buffer[done..])?;
-        if n == 0 {
-            return Ok(done);
+    while done < buffer.len() {
+        match rt.stdin().read(&mut buffer[done..])? {
+            0 => break,
+            n => done += n,
         }
-        done += n;
     }
     Ok(done)
 }
 
 fn main(rt: HostRuntime) -> io::Result<()> {
-    let mut store = [0u8; 33400];
-    let mut work = [0u8; 13321];
-    let mut resp = [0u8; 258];
     let mut script = [0u8; 65536];
-    issue(&mut store);
     let n = fill(&rt, &mut script)?;
-    let reply = card::power_on(&store, &mut work, false);
-    let sum = run(
-        reply.session,
-        &mut store,
-        &mut work,
-        &mut resp,
-        &script[..n],
-    );
+    let sum = Desk::new().run(&script[..n]);
     println!(rt; "{sum}")
 }

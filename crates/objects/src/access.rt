@@ -1,56 +1,66 @@
 // What may be read now (01, the last two columns of the table): a column is a `match`, as in table.
-ghost use Rattle.std.specs.Prelude.{◌≡◌, ◌<◌, get_or};
-ghost use Rattle.rules.specs.declared.Session.{Session};
-ghost use Rattle.rules.specs.Store.{Access, never, contact_read, contactless_read};
+ghost use Rattle.std.specs.Prelude.{◌≡◌, get_or};
+ghost use Rattle.rules.specs.declared.Access.TheVariants.{Never};
+ghost use Rattle.rules.specs.Store.{contact_read, contactless_read};
 ghost use Rattle.rules.specs.Session.{allows, readable};
-ghost use Rattle.objects.specs.Codes.{access_code};
+ghost use Rattle.table.specs.Slots.{index_of};
 
-use rules::Session;
+use rules::{Access, Session};
+use table::Slot;
 
-// 0 always, 1 with the PIN, 2 never
-fn contact_code(slot: usize) -> u8
-    requires { slot < 12 }
-    ensures { result ≡ access_code (get_or contact_read slot never) }
+fn contact_read(slot: Slot) -> Access
+    ensures { result ≡ get_or contact_read (index_of slot) Never }
 {
     match slot {
-        3 => 1,
-        5 => 1,
-        9 => 1,
-        _ => 0,
+        Slot::Fingerprints => Access::WithPin,
+        Slot::Face => Access::WithPin,
+        Slot::Printed => Access::WithPin,
+        Slot::Capability
+        | Slot::Chuid
+        | Slot::Certificate9A
+        | Slot::Security
+        | Slot::Certificate9E
+        | Slot::Certificate9C
+        | Slot::Certificate9D
+        | Slot::KeyHistory
+        | Slot::Discovery => Access::Always,
     }
 }
 
-fn contactless_code(slot: usize) -> u8
-    requires { slot < 12 }
-    ensures { result ≡ access_code (get_or contactless_read slot never) }
+fn contactless_read(slot: Slot) -> Access
+    ensures { result ≡ get_or contactless_read (index_of slot) Never }
 {
     match slot {
-        1 => 0,
-        6 => 0,
-        11 => 0,
-        _ => 2,
+        Slot::Chuid | Slot::Certificate9E | Slot::Discovery => Access::Always,
+        Slot::Capability
+        | Slot::Certificate9A
+        | Slot::Fingerprints
+        | Slot::Security
+        | Slot::Face
+        | Slot::Certificate9C
+        | Slot::Certificate9D
+        | Slot::Printed
+        | Slot::KeyHistory => Access::Never,
     }
 }
 
-fn allowed(code: u8, given: bool) -> bool
-    ensures { (a : Access) (s : Session) → access_code a ≡ code → s.pin ≡ given → result ≡ allows s a }
+fn allows(s: Session, access: Access) -> bool
+    ensures { result ≡ allows s access }
 {
-    if code == 0 {
-        return true;
+    match access {
+        Access::Always => true,
+        Access::WithPin => s.pin,
+        Access::Never => false,
     }
-    if code == 1 {
-        return given;
-    }
-    false
 }
 
-pub fn readable(s: Session, slot: usize) -> bool
-    requires { slot < 12 }
-    ensures { result ≡ readable s slot }
+#[tactic(auto, unfolding(rules::specs::Session::readable, rules::specs::Bytes::iff))]
+pub fn readable(s: Session, slot: Slot) -> bool
+    ensures { result ≡ readable s (index_of slot) }
 {
-    let given = s.pin;
     if s.contactless {
-        return allowed(contactless_code(slot), given);
+        allows(s, contactless_read(slot))
+    } else {
+        allows(s, contact_read(slot))
     }
-    allowed(contact_code(slot), given)
 }

@@ -4,108 +4,110 @@
 
 mod access;
 
-ghost use Rattle.std.specs.Prelude.{◌≡◌, true, List, ℕ, ◌≤◌, ◌<◌, length};
+ghost use Rattle.std.specs.Prelude.{◌≡◌, Some, true, List, ℕ, ◌≤◌, length, IfOk, IfErr};
+ghost use Rattle.rules.specs.Fault.{word_of};
 ghost use Rattle.rules.specs.Store.{well_formed};
-ghost use Rattle.rules.specs.Session.{state};
-ghost use Rattle.rules.specs.Objects.{asked_in, object_tag, give_object, get_slot, get_data};
+ghost use Rattle.rules.specs.Session.{State, state};
+ghost use Rattle.rules.specs.Command.{says};
+ghost use Rattle.rules.specs.Objects.{asked_in, object_tag, give_object, get_slot, get_asked, get_data};
 ghost use Rattle.rules.specs.Calls.{outcome, delivered};
+ghost use Rattle.table.specs.Slots.{index_of};
 
-use rules::{Asked, Found, Header, Reply, Session};
+use rules::{Fault, Header, Place, Reply, Session, Store, Work};
+use table::Slot;
 
 // ---- what is asked for
 
 // 5C 03 and three bytes, or 5C 01 7E, and no more.
-fn asked_in(d: &[u8]) -> Asked
-    ensures { result ≡ asked_in d.now }
+#[tactic(auto, unfolding(rules::specs::Objects::asked_in, rules::specs::Objects::tag_in, rules::specs::Objects::get_asked, rules::specs::Objects::get_slot, rules::specs::Bytes::iff))]
+fn asked_in(d: &[u8]) -> Result<Slot, Fault>
+    ensures found { IfOk result (λ slot. asked_in d.now ≡ Some (index_of slot)) }
+    ensures none { IfErr result (λ f. (st : State) (le : ℕ) → get_asked st le (asked_in d.now) ≡ says st (word_of f)) }
 {
-    let Found::Value { from, len } = reader::only(d, 0x5C) else {
-        return Asked::NoTag;
-    };
-    if len == 3 {
-        return Asked::Slot(table::slot_named(numbers::be24(d, from)));
+    let Place { from, len } = reader::only(d, 0x5C).ok_or(Fault::WrongData)?;
+    match len {
+        3 => table::slot_named(numbers::be24(d, from)).ok_or(Fault::NotFound),
+        1 if d[from] == 0x7E => Ok(Slot::Discovery),
+        _ => Err(Fault::WrongData),
     }
-    if len != 1 {
-        return Asked::NoTag;
-    }
-    if d[from] != 0x7E {
-        return Asked::NoTag;
-    }
-    Asked::Slot(11)
 }
 
 // ---- the object as it goes out
 
 // Tag 53 (7E for Discovery).
-fn object_tag(slot: usize) -> u8
-    ensures { result ≡ object_tag slot }
+#[tactic(auto, unfolding(rules::specs::Objects::object_tag, rules::specs::Bytes::iff))]
+fn object_tag(slot: Slot) -> u8
+    ensures { result ≡ object_tag (index_of slot) }
 {
-    if slot == 11 {
-        return 0x7E;
+    match slot {
+        Slot::Discovery => 0x7E,
+        _ => 0x53,
     }
-    0x53
 }
 
+#[tactic(auto, unfolding(rules::specs::Objects::give_object, rules::specs::Bytes::iff))]
 fn give_object(
     s: Session,
-    work: &mut [u8],
+    work: &mut Work,
     resp: &mut [u8],
     le: usize,
-    slot: usize,
+    slot: Slot,
     v: &[u8],
 ) -> Reply
-    requires { (le ≤ 256) × (258 ≤ length resp.old) × (length v.now ≤ 13312) × (length work.old ≡ 13321) }
-    ensures { (m : List ℕ) → outcome result m work.new resp.new ≡ (delivered resp.old (give_object (state m work.old s) le slot v.now)).outcome }
+    requires resp { 258 ≤ length resp.old }
+    requires le { le ≤ 256 }
+    requires short { length v.now ≤ 13312 }
+    ensures { (m : List ℕ) → outcome result m work.new resp.new ≡ (delivered resp.old (give_object (state m work.old s) le (index_of slot) v.now)).outcome }
 {
-    if v.len() == 0 {
-        return saying::say(s, resp, 0x6A82);
+    if v.is_empty() {
+        return saying::end(s, resp, Err(Fault::NotFound));
     }
-    let mut head = [0u8; 4];
+    let mut head = [0; 4];
     let n = heads::write_head(&mut head, 0, object_tag(slot), v.len());
     let sent = sending::send(work, resp, le, &head[..n], v);
     saying::told(s, sent)
 }
 
-// Tag not in the table: 6A82; reading not allowed now: 6982, whether or not there is an object.
+// Reading not allowed now: 6982, whether or not there is an object.
+#[tactic(auto, using(table::proofs::Slots::below), unfolding(rules::specs::Objects::get_slot, rules::specs::Bytes::iff))]
 fn get_slot(
     s: Session,
-    store: &[u8],
-    work: &mut [u8],
+    store: &Store,
+    work: &mut Work,
     resp: &mut [u8],
     le: usize,
-    slot: usize,
+    slot: Slot,
 ) -> Reply
-    requires { (le ≤ 256) × (258 ≤ length resp.old) × (well_formed store.now ≡ true) × (length work.old ≡ 13321) }
-    ensures { outcome result store.now work.new resp.new ≡ (delivered resp.old (get_slot (state store.now work.old s) le slot)).outcome }
+    requires resp { 258 ≤ length resp.old }
+    requires le { le ≤ 256 }
+    requires well_formed { well_formed store.now ≡ true }
+    ensures { outcome result store.now work.new resp.new ≡ (delivered resp.old (get_slot (state store.now work.old s) le (index_of slot))).outcome }
 {
-    if 12 <= slot {
-        return saying::say(s, resp, 0x6A82);
-    }
     if !access::readable(s, slot) {
-        return saying::say(s, resp, 0x6982);
+        return saying::end(s, resp, Err(Fault::NotAllowed));
     }
     give_object(s, work, resp, le, slot, store::object(store, slot))
 }
 
+#[tactic(auto, unfolding(rules::specs::Objects::get_data, rules::specs::Objects::get_asked, rules::specs::Bytes::iff))]
 pub fn get_data(
     s: Session,
-    store: &[u8],
-    work: &mut [u8],
+    store: &Store,
+    work: &mut Work,
     resp: &mut [u8],
     h: Header,
     field: &[u8],
 ) -> Reply
-    requires { (h.le ≤ 256) × (258 ≤ length resp.old) × (well_formed store.now ≡ true) × (length work.old ≡ 13321) }
+    requires resp { 258 ≤ length resp.old }
+    requires le { h.le ≤ 256 }
+    requires well_formed { well_formed store.now ≡ true }
     ensures { outcome result store.now work.new resp.new ≡ (delivered resp.old (get_data (state store.now work.old s) h field.now)).outcome }
 {
-    if h.p1 != 0x3F {
-        return saying::say(s, resp, 0x6A86);
+    if h.p1 != 0x3F || h.p2 != 0xFF {
+        return saying::end(s, resp, Err(Fault::WrongParameters));
     }
-    if h.p2 != 0xFF {
-        return saying::say(s, resp, 0x6A86);
+    match asked_in(field) {
+        Ok(slot) => get_slot(s, store, work, resp, h.le, slot),
+        Err(fault) => saying::end(s, resp, Err(fault)),
     }
-    let Asked::Slot(slot) = asked_in(field) else {
-        return saying::say(s, resp, 0x6A80);
-    };
-    let le = h.le;
-    get_slot(s, store, work, resp, le, slot)
 }

@@ -5,7 +5,7 @@
 
 mod sums;
 
-ghost use Rattle.std.specs.Prelude.{◌≡◌, ◌∷◌, ◌+◌, ◌*◌, ◌≤◌, length};
+ghost use Rattle.std.specs.Prelude.{◌≡◌, ◌∷◌, ◌+◌, ◌*◌, ◌≤◌, ◌<◌, length};
 ghost use Rattle.rules.specs.declared.Answer.TheVariants.{Response, JobOpened};
 ghost use Rattle.rules.specs.Bytes.{splice};
 ghost use Rattle.rules.specs.Calls.{refusal_number};
@@ -15,6 +15,7 @@ ghost use Rattle.outcomes.specs.Outcomes.{kind, session_text, sum_text, sums_tex
 use rules::{Answer, Refusal, Reply, Session};
 
 // A character, and bytes in hex behind it.
+#[tactic(auto, using(octets::proofs::Laws::splice_cons, printing::proofs::Laws::hex))]
 fn write_marked(out: &mut [u8], at: usize, mark: u8, s: &[u8]) -> usize
     requires { at + 1 + 2 * length s.now ≤ length out.old }
     ensures { (result ≡ at + length (mark ∷ hex_of s.now)) × (out.new ≡ splice out.old at (mark ∷ hex_of s.now)) }
@@ -23,8 +24,10 @@ fn write_marked(out: &mut [u8], at: usize, mark: u8, s: &[u8]) -> usize
     printing::write_hex(out, at + 1, s)
 }
 
+// No `From`: it would have to stand in rules, with the type, for this one caller.
 fn number(r: Refusal) -> u8
-    ensures { result ≡ refusal_number r }
+    ensures value { result ≡ refusal_number r }
+    ensures small { result < 10 }
 {
     match r {
         Refusal::IllStore => 1,
@@ -37,6 +40,7 @@ fn number(r: Refusal) -> u8
     }
 }
 
+#[tactic(auto, using(octets::proofs::Laws::splice_cons), unfolding(crate::specs::Outcomes::kind))]
 fn write_response(out: &mut [u8], resp: &[u8], len: usize) -> usize
     requires { 2 + 2 * length resp.now ≤ length out.old }
     ensures { (result ≡ length (kind (Response len) resp.now)) × (out.new ≡ splice out.old 0 (kind (Response len) resp.now)) }
@@ -45,6 +49,7 @@ fn write_response(out: &mut [u8], resp: &[u8], len: usize) -> usize
     write_marked(out, 1, b' ', lines::first(resp, len))
 }
 
+#[tactic(auto, using(octets::proofs::Laws::splice_cons, rules::proofs::Lists::buffers, printing::proofs::Laws::hex, std::proofs::lemmas::Grind::common_steps), unfolding(crate::specs::Outcomes::kind))]
 fn write_job(out: &mut [u8], resp: &[u8], key: u8, alg: u8, len: usize) -> usize
     requires { 7 + 2 * length resp.now ≤ length out.old }
     ensures { (result ≡ length (kind (JobOpened key alg len) resp.now)) × (out.new ≡ splice out.old 0 (kind (JobOpened key alg len) resp.now)) }
@@ -55,26 +60,26 @@ fn write_job(out: &mut [u8], resp: &[u8], key: u8, alg: u8, len: usize) -> usize
     write_marked(out, next, b':', lines::first(resp, len))
 }
 
+#[tactic(auto, unfolding(crate::specs::Outcomes::kind))]
 fn write_kind(out: &mut [u8], a: Answer, resp: &[u8]) -> usize
     requires { 7 + 2 * length resp.now ≤ length out.old }
     ensures { (result ≡ length (kind a resp.now)) × (out.new ≡ splice out.old 0 (kind a resp.now)) }
 {
     match a {
         Answer::PoweredOn => {
-            let text = [b'P', b' ', b'-'];
-            octets::put(out, 0, &text);
+            octets::put(out, 0, b"P -");
             3
         }
         Answer::Response { len } => write_response(out, resp, len),
         Answer::JobOpened { key, alg, len } => write_job(out, resp, key, alg, len),
         Answer::Refused(x) => {
-            let text = [b'N', b' ', 48 + number(x)];
-            octets::put(out, 0, &text);
+            octets::put(out, 0, &[b'N', b' ', b'0' + number(x)]);
             3
         }
     }
 }
 
+#[tactic(auto, unfolding(crate::specs::Outcomes::session_text))]
 fn write_session(out: &mut [u8], at: usize, s: Session) -> usize
     requires { at + 129 ≤ length out.old }
     ensures { (result ≡ at + length (session_text s)) × (out.new ≡ splice out.old at (session_text s)) }
@@ -84,6 +89,7 @@ fn write_session(out: &mut [u8], at: usize, s: Session) -> usize
     write_marked(out, at, b' ', &bytes)
 }
 
+#[tactic(auto, using(octets::proofs::Laws::splice_cons), unfolding(crate::specs::Outcomes::sum_text))]
 fn write_sum(out: &mut [u8], at: usize, s: &[u8]) -> usize
     requires { at + 11 ≤ length out.old }
     ensures { (result ≡ at + length (sum_text s.now)) × (out.new ≡ splice out.old at (sum_text s.now)) }
@@ -93,6 +99,7 @@ fn write_sum(out: &mut [u8], at: usize, s: &[u8]) -> usize
 }
 
 // The sums of store, work area and response buffer.
+#[tactic(auto, using(crate::proofs::Laws::lengths, rules::proofs::Lists::buffers, std::proofs::lemmas::Grind::common_steps), unfolding(crate::specs::Outcomes::sums_text))]
 fn write_sums(out: &mut [u8], at: usize, store: &[u8], work: &[u8], resp: &[u8]) -> usize
     requires { at + 33 ≤ length out.old }
     ensures { (result ≡ at + length (sums_text store.now work.now resp.now)) × (out.new ≡ splice out.old at (sums_text store.now work.now resp.now)) }
@@ -102,14 +109,13 @@ fn write_sums(out: &mut [u8], at: usize, store: &[u8], work: &[u8], resp: &[u8])
     write_sum(out, work_end, resp)
 }
 
+#[tactic(auto, using(crate::proofs::Laws::lengths, rules::proofs::Lists::buffers, std::proofs::lemmas::Grind::common_steps), unfolding(crate::specs::Outcomes::outcome_line))]
 pub fn write(out: &mut [u8], r: Reply, store: &[u8], work: &[u8], resp: &[u8]) -> usize
     requires { 2 * length resp.now + 200 ≤ length out.old }
     ensures { (result ≡ length (outcome_line r store.now work.now resp.now)) × (out.new ≡ splice out.old 0 (outcome_line r store.now work.now resp.now)) }
 {
-    let a = r.answer;
-    let s = r.session;
-    let kind_end = write_kind(out, a, resp);
-    let session_end = write_session(out, kind_end, s);
+    let kind_end = write_kind(out, r.answer, resp);
+    let session_end = write_session(out, kind_end, r.session);
     let sums_end = write_sums(out, session_end, store, work, resp);
     octets::put_byte(out, sums_end, b'\n');
     sums_end + 1

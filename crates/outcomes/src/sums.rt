@@ -3,19 +3,21 @@ ghost use Rattle.std.specs.Prelude.{◌≡◌, ◌+◌, ◌≤◌, length};
 ghost use Rattle.rules.specs.Bytes.{splice};
 ghost use Rattle.outcomes.specs.Sums.{sum_of, decimal_of};
 
+// The largest prime below 2^32.
+const PRIME: u64 = 4_294_967_291;
+
 pub fn sum(s: &[u8]) -> u64
     ensures { result ≡ sum_of s.now }
 {
-    let mut h = (s.len() % 4294967291) as u64;
-    let mut i = 0;
-    while i < s.len() {
-        h = (h * 257 + (s[i] as u64) + 1) % 4294967291;
-        i += 1;
+    let mut h = s.len() as u64 % PRIME;
+    for b in s {
+        h = (h * 257 + u64::from(*b) + 1) % PRIME;
     }
     h
 }
 
 // In at most k digits.
+#[tactic(auto, using(crate::proofs::Digits::digits, rules::proofs::Lists::buffers, std::proofs::lemmas::Grind::common_steps))]
 pub fn write_decimal(dst: &mut [u8], at: usize, k: usize, n: u64) -> usize
     requires { at + k ≤ length dst.old }
     ensures { (result ≡ at + length (decimal_of k n)) × (dst.new ≡ splice dst.old at (decimal_of k n)) }

@@ -4,19 +4,15 @@
 --   packed_parts           a row of 64 bytes in which each part was put at its place
 --
 -- Assumes nothing.
+use Rattle.std.specs.Prelude.{Option, None, Some}
 use mathlib.Core.Path.{◌≡◌, refl, ap₂, sym, ◌∙◌}
 use mathlib.Core.List.{List, ◌++◌}
 use Prim.Native.Nat.{ℕ, ◌+◌, ◌≤◌}
 use native.Mathlib.Omega.{arith}
 use lib.ListN.{length, length-append}
 use Rattle.rules.specs.declared.Chain.{Chain}
-use Rattle.rules.specs.declared.Chain.TheVariants.{Shut, Open}
 use Rattle.rules.specs.declared.Rest.{Rest}
-use Rattle.rules.specs.declared.Rest.TheVariants.{Gone, Left}
-use Rattle.rules.specs.declared.Challenge.{Challenge}
-use Rattle.rules.specs.declared.Challenge.TheVariants.{Unasked, Awaits}
 use Rattle.rules.specs.declared.Job.{Job}
-use Rattle.rules.specs.declared.Job.TheVariants.{Idle, Running}
 use Rattle.rules.specs.declared.Session.{Session}
 use Rattle.rules.specs.Bytes.{splice, zeros}
 use Rattle.rules.proofs.Lists.{join-start, length-zeros}
@@ -25,21 +21,21 @@ use Rattle.packed.specs.Packed.{flag_bytes, chain_bytes, rest_bytes, challenge_b
 
 -- ---- the length of each part
 
-chain_six : (c : Chain) → length (chain_bytes c) ≡ 6
-chain_six Shut = refl
-chain_six (Open ins p1 p2 n) = refl
+chain_six : (c : Option Chain) → length (chain_bytes c) ≡ 6
+chain_six None = refl
+chain_six (Some c) = refl
 
-rest-five : (r : Rest) → length (rest_bytes r) ≡ 5
-rest-five Gone = refl
-rest-five (Left whole fetched) = refl
+rest-five : (r : Option Rest) → length (rest_bytes r) ≡ 5
+rest-five None = refl
+rest-five (Some r) = refl
 
-challenge_nine : (c : Challenge) → length (challenge_bytes c) ≡ 9
-challenge_nine Unasked = refl
-challenge_nine (Awaits r) = refl
+challenge_nine : (c : Option ℕ) → length (challenge_bytes c) ≡ 9
+challenge_nine None = refl
+challenge_nine (Some r) = refl
 
-job-five : (j : Job) → length (job_bytes j) ≡ 5
-job-five Idle = refl
-job-five (Running key alg le) = refl
+job-five : (j : Option Job) → length (job_bytes j) ≡ 5
+job-five None = refl
+job-five (Some j) = refl
 
 pub packed-length : (ss : Session) → length (packed ss) ≡ 64
 unfolding packed

@@ -4,15 +4,10 @@
 --
 -- Each thing that may be absent is a mark, 1 where it is there, and its fields; of a thing that is not there all bytes are 0.
 -- Two-byte numbers have the high byte first. Assumes nothing.
-use Rattle.std.specs.Prelude.{Bool, true, false, List, [], ◌∷◌, ◌++◌, ℕ, ◌/◌, ◌%◌}
+use Rattle.std.specs.Prelude.{Option, None, Some, Bool, true, false, List, [], ◌∷◌, ◌++◌, ℕ, ◌/◌, ◌%◌}
 use Rattle.rules.specs.declared.Chain.{Chain}
-use Rattle.rules.specs.declared.Chain.TheVariants.{Shut, Open}
 use Rattle.rules.specs.declared.Rest.{Rest}
-use Rattle.rules.specs.declared.Rest.TheVariants.{Gone, Left}
-use Rattle.rules.specs.declared.Challenge.{Challenge}
-use Rattle.rules.specs.declared.Challenge.TheVariants.{Unasked, Awaits}
 use Rattle.rules.specs.declared.Job.{Job}
-use Rattle.rules.specs.declared.Job.TheVariants.{Idle, Running}
 use Rattle.rules.specs.declared.Session.{Session}
 use Rattle.rules.specs.Bytes.{zeros}
 
@@ -20,13 +15,13 @@ abbrev pub flag : Bool → ℕ
 flag true = 1
 flag false = 0
 
-abbrev pub chain_bytes : Chain → List ℕ
-chain_bytes Shut = 0 ∷ 0 ∷ 0 ∷ 0 ∷ 0 ∷ 0 ∷ []
-chain_bytes (Open ins p1 p2 n) = 1 ∷ ins ∷ p1 ∷ p2 ∷ n / 256 % 256 ∷ n % 256 ∷ []
+abbrev pub chain_bytes : Option Chain → List ℕ
+chain_bytes None = 0 ∷ 0 ∷ 0 ∷ 0 ∷ 0 ∷ 0 ∷ []
+chain_bytes (Some c) = 1 ∷ c.ins ∷ c.p1 ∷ c.p2 ∷ c.len / 256 % 256 ∷ c.len % 256 ∷ []
 
-abbrev pub rest_bytes : Rest → List ℕ
-rest_bytes Gone = 0 ∷ 0 ∷ 0 ∷ 0 ∷ 0 ∷ []
-rest_bytes (Left whole fetched) = 1 ∷ whole / 256 % 256 ∷ whole % 256 ∷ fetched / 256 % 256 ∷ fetched % 256 ∷ []
+abbrev pub rest_bytes : Option Rest → List ℕ
+rest_bytes None = 0 ∷ 0 ∷ 0 ∷ 0 ∷ 0 ∷ []
+rest_bytes (Some r) = 1 ∷ r.whole / 256 % 256 ∷ r.whole % 256 ∷ r.fetched / 256 % 256 ∷ r.fetched % 256 ∷ []
 
 -- the eight bytes of the expected reply
 abbrev pub reply_bytes : ℕ → List ℕ
@@ -34,13 +29,13 @@ reply_bytes r =
     r / 72057594037927936 % 256 ∷ r / 281474976710656 % 256 ∷ r / 1099511627776 % 256 ∷ r / 4294967296 % 256
     ∷ r / 16777216 % 256 ∷ r / 65536 % 256 ∷ r / 256 % 256 ∷ r % 256 ∷ []
 
-abbrev pub challenge_bytes : Challenge → List ℕ
-challenge_bytes Unasked = 0 ∷ 0 ∷ 0 ∷ 0 ∷ 0 ∷ 0 ∷ 0 ∷ 0 ∷ 0 ∷ []
-challenge_bytes (Awaits r) = 1 ∷ reply_bytes r
+abbrev pub challenge_bytes : Option ℕ → List ℕ
+challenge_bytes None = 0 ∷ 0 ∷ 0 ∷ 0 ∷ 0 ∷ 0 ∷ 0 ∷ 0 ∷ 0 ∷ []
+challenge_bytes (Some r) = 1 ∷ reply_bytes r
 
-abbrev pub job_bytes : Job → List ℕ
-job_bytes Idle = 0 ∷ 0 ∷ 0 ∷ 0 ∷ 0 ∷ []
-job_bytes (Running key alg le) = 1 ∷ key ∷ alg ∷ le / 256 % 256 ∷ le % 256 ∷ []
+abbrev pub job_bytes : Option Job → List ℕ
+job_bytes None = 0 ∷ 0 ∷ 0 ∷ 0 ∷ 0 ∷ []
+job_bytes (Some j) = 1 ∷ j.key ∷ j.alg ∷ j.le / 256 % 256 ∷ j.le % 256 ∷ []
 
 abbrev pub flag_bytes : Session → List ℕ
 flag_bytes ss = flag ss.contactless ∷ flag ss.pin ∷ flag ss.admin ∷ []

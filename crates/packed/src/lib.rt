@@ -2,18 +2,16 @@
 
 #![tactic(auto)]
 
-ghost use Rattle.std.specs.Prelude.{◌≡◌, length};
+ghost use Rattle.std.specs.Prelude.{◌≡◌};
+ghost use Rattle.rules.specs.Bytes.{word};
 ghost use Rattle.packed.specs.Packed.{flag_bytes, chain_bytes, rest_bytes, challenge_bytes, job_bytes, packed, flag};
 
-use rules::{Chain, Challenge, Job, Rest, Session};
+use rules::{Chain, Job, Rest, Session};
 
 fn flag(b: bool) -> u8
     ensures { result ≡ flag b }
 {
-    if b {
-        return 1;
-    }
-    0
+    u8::from(b)
 }
 
 fn flag_bytes(s: Session) -> [u8; 3]
@@ -22,77 +20,75 @@ fn flag_bytes(s: Session) -> [u8; 3]
     [flag(s.contactless), flag(s.pin), flag(s.admin)]
 }
 
-fn chain_bytes(c: Chain) -> [u8; 6]
+// The lower 16 bits, the high byte first.
+#[tactic(auto, unfolding(rules::specs::Bytes::word))]
+fn word(n: usize) -> [u8; 2]
+    ensures { result ≡ word n }
+{
+    let [.., high, low] = n.to_be_bytes();
+    [high, low]
+}
+
+#[tactic(auto, unfolding(rules::specs::Bytes::word))]
+fn chain_bytes(c: Option<Chain>) -> [u8; 6]
     ensures { result ≡ chain_bytes c }
 {
     match c {
-        Chain::Shut => [0, 0, 0, 0, 0, 0],
-        Chain::Open { ins, p1, p2, len } => {
-            [1, ins, p1, p2, (len / 256 % 256) as u8, (len % 256) as u8]
+        None => [0; 6],
+        Some(c) => {
+            let [high, low] = word(c.len);
+            [1, c.ins, c.p1, c.p2, high, low]
         }
     }
 }
 
-fn rest_bytes(r: Rest) -> [u8; 5]
+#[tactic(auto, unfolding(rules::specs::Bytes::word))]
+fn rest_bytes(r: Option<Rest>) -> [u8; 5]
     ensures { result ≡ rest_bytes r }
 {
     match r {
-        Rest::Gone => [0, 0, 0, 0, 0],
-        Rest::Left { whole, fetched } => [
-            1,
-            (whole / 256 % 256) as u8,
-            (whole % 256) as u8,
-            (fetched / 256 % 256) as u8,
-            (fetched % 256) as u8,
-        ],
+        None => [0; 5],
+        Some(r) => {
+            let [whole, low] = word(r.whole);
+            let [fetched, last] = word(r.fetched);
+            [1, whole, low, fetched, last]
+        }
     }
 }
 
-fn challenge_bytes(c: Challenge) -> [u8; 9]
+fn challenge_bytes(c: Option<u64>) -> [u8; 9]
     ensures { result ≡ challenge_bytes c }
 {
     match c {
-        Challenge::Unasked => [0, 0, 0, 0, 0, 0, 0, 0, 0],
-        Challenge::Awaits { reply } => [
-            1,
-            (reply / 72057594037927936 % 256) as u8,
-            (reply / 281474976710656 % 256) as u8,
-            (reply / 1099511627776 % 256) as u8,
-            (reply / 4294967296 % 256) as u8,
-            (reply / 16777216 % 256) as u8,
-            (reply / 65536 % 256) as u8,
-            (reply / 256 % 256) as u8,
-            (reply % 256) as u8,
-        ],
+        None => [0; 9],
+        Some(reply) => {
+            let [a, b, c, d, e, f, g, h] = reply.to_be_bytes();
+            [1, a, b, c, d, e, f, g, h]
+        }
     }
 }
 
-fn job_bytes(j: Job) -> [u8; 5]
+#[tactic(auto, unfolding(rules::specs::Bytes::word))]
+fn job_bytes(j: Option<Job>) -> [u8; 5]
     ensures { result ≡ job_bytes j }
 {
     match j {
-        Job::Idle => [0, 0, 0, 0, 0],
-        Job::Running { key, alg, le } => { [1, key, alg, (le / 256 % 256) as u8, (le % 256) as u8] }
+        None => [0; 5],
+        Some(j) => {
+            let [high, low] = word(j.le);
+            [1, j.key, j.alg, high, low]
+        }
     }
 }
 
-pub fn pack(dst: &mut [u8], s: Session)
-    requires { length dst.old ≡ 64 }
+#[tactic(auto, unfolding(crate::specs::Packed::packed))]
+pub fn pack(dst: &mut [u8; 64], s: Session)
     ensures { dst.new ≡ packed s }
 {
-    let chain = s.chain;
-    let rest = s.rest;
-    let challenge = s.challenge;
-    let job = s.job;
-    let flags = flag_bytes(s);
-    octets::put(dst, 0, &flags);
-    let chain_part = chain_bytes(chain);
-    octets::put(dst, 3, &chain_part);
-    let rest_part = rest_bytes(rest);
-    octets::put(dst, 9, &rest_part);
-    let challenge_part = challenge_bytes(challenge);
-    octets::put(dst, 14, &challenge_part);
-    let job_part = job_bytes(job);
-    octets::put(dst, 23, &job_part);
+    octets::put(dst, 0, &flag_bytes(s));
+    octets::put(dst, 3, &chain_bytes(s.chain));
+    octets::put(dst, 9, &rest_bytes(s.rest));
+    octets::put(dst, 14, &challenge_bytes(s.challenge));
+    octets::put(dst, 23, &job_bytes(s.job));
     octets::zero(dst, 28, 36);
 }

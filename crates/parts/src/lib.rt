@@ -1,6 +1,6 @@
 // Parts: bytes read where they stand. A part of a row is lent on, not copied; and two rows are compared.
 
-#![tactic(auto)]
+#![tactic(auto, unfolding(rules::specs::Bytes::part))]
 
 ghost use Rattle.std.specs.Prelude.{◌≡◌, ◌+◌, ◌≤◌, length};
 ghost use Rattle.rules.specs.Bytes.{same_bytes, part};
@@ -8,24 +8,15 @@ ghost use Rattle.rules.specs.Bytes.{same_bytes, part};
 // 01, "The data objects in a command": a value read is that stretch of the command itself.
 pub fn part(s: &[u8], from: usize, n: usize) -> &[u8]
     requires { from + n ≤ length s.now }
-    ensures { result.now ≡ part s.now from n }
+    ensures part { result.now ≡ part s.now from n }
+    ensures len { length result.now ≡ n }
 {
     &s[from..from + n]
 }
 
-// It ends at the first byte that differs, so secrets are not compared here but by their number.
+// This may end at the first byte that differs, so secrets are not compared here but by their number.
 pub fn same(a: &[u8], b: &[u8]) -> bool
     ensures { result ≡ same_bytes a.now b.now }
 {
-    if a.len() != b.len() {
-        return false;
-    }
-    let mut i = 0;
-    while i < a.len() {
-        if a[i] != b[i] {
-            return false;
-        }
-        i += 1;
-    }
-    true
+    a == b
 }

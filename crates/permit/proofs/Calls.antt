@@ -4,12 +4,12 @@
 --   outcome-denied outcome-granted    what is seen of a call
 --
 -- Assumes nothing.
+use Rattle.std.specs.Prelude.{Ok, Err}
 use mathlib.Core.Path.{◌≡◌, ap, sym}
 use mathlib.Core.Bool.{true}
 use Prim.Native.Nat.{◌≤◌}
 use Rattle.rules.specs.declared.Answer.TheVariants.{Refused}
 use Rattle.rules.specs.declared.Refusal.{Refusal}
-use Rattle.rules.specs.declared.Permit.TheVariants.{Granted, Denied}
 use Rattle.rules.specs.declared.Session.{Session}
 use Rattle.rules.specs.Session.{State, held_length, rest_ok, job_ok, possible}
 use Rattle.rules.specs.Calls.{Call, permit, Result, outcome, reply, lent, kept_session, granted, denied, call}
@@ -30,10 +30,10 @@ possible-held ss e =
 
 -- ---- what a call comes to
 
-pub outcome-denied : (st : State) (k : Call) (x : Refusal) → permit st k ≡ Denied x
+pub outcome-denied : (st : State) (k : Call) (x : Refusal) → permit st k ≡ Err x
     → outcome (reply (Refused x) (kept_session k st.session)) st.store st.work (lent k) ≡ (call st k).outcome
 unfolding denied
 outcome-denied st k x e = sym (ap (λ (r : Result). r.outcome) (call-denied st k x e))
 
-pub outcome-granted : (st : State) (k : Call) → permit st k ≡ Granted → (granted st k).outcome ≡ (call st k).outcome
+pub outcome-granted : (st : State) (k : Call) → permit st k ≡ Ok tt → (granted st k).outcome ≡ (call st k).outcome
 outcome-granted st k e = sym (ap (λ (r : Result). r.outcome) (call-granted st k e))

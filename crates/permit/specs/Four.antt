@@ -4,23 +4,22 @@
 --   unless p x             x, unless p refuses
 --
 -- Assumes nothing.
-use Rattle.std.specs.Prelude.{Bool, not, ℕ, ltb, eqb}
-use Rattle.rules.specs.declared.Permit.{Permit}
-use Rattle.rules.specs.declared.Permit.TheVariants.{Granted, Denied}
+use Rattle.std.specs.Prelude.{Ok, Err, Bool, not, ℕ, ltb, eqb}
 use Rattle.rules.specs.declared.Refusal.TheVariants.{IllStore, IllSession, ShortResponse, WrongWork}
 use Rattle.rules.specs.declared.Session.{Session}
 use Rattle.rules.specs.Bytes.{iff}
+use Rattle.rules.specs.Fault.{Permit}
 use Rattle.rules.specs.Store.{work_size}
 use Rattle.rules.specs.Session.{possible}
 
 unfoldable pub first_four : Bool → Session → ℕ → ℕ → Permit
 first_four b ss n m =
-    iff (not b) (Denied IllStore)
-    (iff (not (possible ss)) (Denied IllSession)
-    (iff (ltb n 258) (Denied ShortResponse)
-    (iff (not (eqb m work_size)) (Denied WrongWork)
-    Granted)))
+    iff (not b) (Err IllStore)
+    (iff (not (possible ss)) (Err IllSession)
+    (iff (ltb n 258) (Err ShortResponse)
+    (iff (not (eqb m work_size)) (Err WrongWork)
+    (Ok tt))))
 
 abbrev pub unless : Permit → Permit → Permit
-unless Granted x = x
-unless (Denied r) x = Denied r
+unless (Ok u) x = x
+unless (Err r) x = Err r

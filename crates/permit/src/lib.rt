@@ -2,93 +2,95 @@
 
 #![tactic(auto)]
 
-ghost use Rattle.std.specs.Prelude.{◌≡◌, Bool, List, ℕ, length};
+ghost use Rattle.std.specs.Prelude.{◌≡◌, Bool, true, false, List, ℕ, ◌≤◌, length, IsSome, OnOk};
 ghost use Rattle.rules.specs.Store.{well_formed};
-ghost use Rattle.rules.specs.Session.{state};
+ghost use Rattle.rules.specs.Session.{state, possible};
 ghost use Rattle.rules.specs.Keys.{result_ok, result_fits};
 ghost use Rattle.rules.specs.Calls.{powers, sends, finishes, permit};
 ghost use Rattle.permit.specs.Four.{first_four};
 
-use rules::{Job, Permit, Refusal, Session};
+use rules::{Job, Refusal, Session};
 
 // ---- whether bytes can be the result of a job
 
 // 16 bytes for a challenge; 256 bytes (07), 1 to 72 (11) or 32 (9D with 11).
+#[tactic(auto, unfolding(rules::specs::Keys::result_ok, rules::specs::Bytes::iff))]
 fn result_ok(key: u8, alg: u8, n: usize) -> bool
     ensures { (r : List ℕ) → length r ≡ n → result ≡ result_ok key alg r }
 {
-    if key == 0x9B {
-        return n == 16;
+    match (key, alg) {
+        (0x9B, _) => n == 16,
+        (_, 0x07) => n == 256,
+        (0x9D, _) => n == 32,
+        _ => 1 <= n && n <= 72,
     }
-    if alg == 0x07 {
-        return n == 256;
-    }
-    if key == 0x9D {
-        return n == 32;
-    }
-    if n < 1 {
-        return false;
-    }
-    n <= 72
 }
 
-fn result_fits(j: Job, n: usize) -> bool
+#[tactic(auto, unfolding(rules::specs::Keys::result_fits))]
+fn result_fits(j: Option<Job>, n: usize) -> bool
     ensures { (r : List ℕ) → length r ≡ n → result ≡ result_fits j r }
 {
-    let Job::Running { key, alg, le: _ } = j else {
-        return false;
-    };
-    result_ok(key, alg, n)
+    j.is_some_and(|j| result_ok(j.key, j.alg, n))
 }
 
 // ---- the row of refusals
 
 // Power-on can give 1 and 4 only.
-pub fn power_on(formed: bool, area: usize) -> Permit
-    ensures { (s w : List ℕ) (ss : Session) (air : Bool) → formed ≡ well_formed s → length w ≡ area → result ≡ permit (state s w ss) (powers air) }
+#[tactic(auto, unfolding(rules::specs::Calls::permit, rules::specs::Calls::ill_session, rules::specs::Calls::short_response, rules::specs::Calls::interrupts, rules::specs::Calls::unasked, rules::specs::Calls::wrong_result, crate::specs::Four::first_four, rules::specs::Bytes::iff))]
+pub fn power_on(formed: bool, area: usize) -> Result<(), Refusal>
+    ensures permit { (s w : List ℕ) (ss : Session) (air : Bool) → formed ≡ well_formed s → length w ≡ area → result ≡ permit (state s w ss) (powers air) }
+    ensures work { OnOk result (area ≡ 13321) }
 {
     if !formed {
-        return Permit::Denied(Refusal::IllStore);
+        return Err(Refusal::IllStore);
     }
-    if area == 13321 {
-        return Permit::Granted;
+    if area != 13321 {
+        return Err(Refusal::WrongWork);
     }
-    Permit::Denied(Refusal::WrongWork)
+    Ok(())
 }
 
 // Refusals 1 to 4, which a command and a job result share.
-fn first_four(formed: bool, session: Session, resp: usize, work: usize) -> Permit
-    ensures { result ≡ first_four formed session resp work }
+#[tactic(auto, unfolding(crate::specs::Four::first_four, rules::specs::Bytes::iff))]
+fn first_four(formed: bool, session: Session, resp: usize, work: usize) -> Result<(), Refusal>
+    ensures permit { result ≡ first_four formed session resp work }
+    ensures formed { OnOk result (formed ≡ true) }
+    ensures session { OnOk result (possible session ≡ true) }
+    ensures resp { OnOk result (258 ≤ resp) }
+    ensures work { OnOk result (work ≡ 13321) }
 {
     if !formed {
-        return Permit::Denied(Refusal::IllStore);
+        return Err(Refusal::IllStore);
     }
     if !possible::possible(session) {
-        return Permit::Denied(Refusal::IllSession);
+        return Err(Refusal::IllSession);
     }
     if resp < 258 {
-        return Permit::Denied(Refusal::ShortResponse);
+        return Err(Refusal::ShortResponse);
     }
     if work != 13321 {
-        return Permit::Denied(Refusal::WrongWork);
+        return Err(Refusal::WrongWork);
     }
-    Permit::Granted
+    Ok(())
 }
 
-pub fn command(formed: bool, session: Session, resp: usize, work: usize) -> Permit
-    ensures { (s w b c : List ℕ) → formed ≡ well_formed s → length w ≡ work → length b ≡ resp → result ≡ permit (state s w session) (sends b c) }
+#[tactic(auto, unfolding(rules::specs::Calls::permit, rules::specs::Calls::ill_session, rules::specs::Calls::short_response, rules::specs::Calls::interrupts, rules::specs::Calls::unasked, rules::specs::Calls::wrong_result, crate::specs::Four::first_four, rules::specs::Bytes::iff))]
+pub fn command(formed: bool, session: Session, resp: usize, work: usize) -> Result<(), Refusal>
+    ensures permit { (s w b c : List ℕ) → formed ≡ well_formed s → length w ≡ work → length b ≡ resp → result ≡ permit (state s w session) (sends b c) }
+    ensures formed { OnOk result (formed ≡ true) }
+    ensures session { OnOk result (possible session ≡ true) }
+    ensures resp { OnOk result (258 ≤ resp) }
+    ensures work { OnOk result (work ≡ 13321) }
 {
-    if let Permit::Denied(r) = first_four(formed, session, resp, work) {
-        return Permit::Denied(r);
+    first_four(formed, session, resp, work)?;
+    if session.job.is_some() {
+        return Err(Refusal::JobOpen);
     }
-    let job = session.job;
-    let Job::Idle = job else {
-        return Permit::Denied(Refusal::JobOpen);
-    };
-    Permit::Granted
+    Ok(())
 }
 
 // A job reported as failed has no result.
+#[tactic(auto, unfolding(rules::specs::Calls::permit, rules::specs::Calls::ill_session, rules::specs::Calls::short_response, rules::specs::Calls::interrupts, rules::specs::Calls::unasked, rules::specs::Calls::wrong_result, crate::specs::Four::first_four, rules::specs::Bytes::iff))]
 pub fn job_result(
     formed: bool,
     session: Session,
@@ -96,21 +98,20 @@ pub fn job_result(
     work: usize,
     failed: bool,
     res: usize,
-) -> Permit
-    ensures { (s w b r : List ℕ) → formed ≡ well_formed s → length w ≡ work → length b ≡ resp → length r ≡ res → result ≡ permit (state s w session) (finishes b failed r) }
+) -> Result<(), Refusal>
+    ensures permit { (s w b r : List ℕ) → formed ≡ well_formed s → length w ≡ work → length b ≡ resp → length r ≡ res → result ≡ permit (state s w session) (finishes b failed r) }
+    ensures session { OnOk result (possible session ≡ true) }
+    ensures resp { OnOk result (258 ≤ resp) }
+    ensures work { OnOk result (work ≡ 13321) }
+    ensures job { OnOk result (IsSome session.job) }
+    ensures result { OnOk result (failed ≡ false → (r : List ℕ) → length r ≡ res → result_fits session.job r ≡ true) }
 {
-    if let Permit::Denied(r) = first_four(formed, session, resp, work) {
-        return Permit::Denied(r);
+    first_four(formed, session, resp, work)?;
+    if session.job.is_none() {
+        return Err(Refusal::NoJob);
     }
-    let job = session.job;
-    if let Job::Idle = job {
-        return Permit::Denied(Refusal::NoJob);
+    if !failed && !result_fits(session.job, res) {
+        return Err(Refusal::WrongResult);
     }
-    if failed {
-        return Permit::Granted;
-    }
-    if !result_fits(job, res) {
-        return Permit::Denied(Refusal::WrongResult);
-    }
-    Permit::Granted
+    Ok(())
 }

@@ -4,14 +4,13 @@
 --   rule-verify rule-change rule-reset    the rule of each INS
 --
 -- Assumes nothing.
+use Rattle.std.specs.Prelude.{None}
 use mathlib.Core.Path.{◌≡◌, refl, ap, ◌∙◌}
 use mathlib.Core.List.{List}
 use Prim.Native.Nat.{ℕ}
 use lib.Dec.{eqb}
 use borrow.Author.Tests.{ne_eqb}
 use Rattle.rules.specs.declared.Answer.TheVariants.{Response}
-use Rattle.rules.specs.declared.Chain.TheVariants.{Shut}
-use Rattle.rules.specs.declared.Rest.TheVariants.{Gone}
 use Rattle.rules.specs.declared.Header.{Header}
 use Rattle.rules.specs.declared.Session.{Session}
 use Rattle.rules.specs.Bytes.{splice, zeroed, word}
@@ -23,7 +22,7 @@ use Rattle.rules.proofs.Tests.{on, off}
 use Rattle.pin.specs.Rule.{pin_rule}
 
 pub ref_seen : (s w resp : List ℕ) (ss : Session) (x : Said)
-    → outcome (reply (Response 2) (with_pin (holding ss Shut Gone) (judged_on s ss.pin x).judged.given)) (judged_on s ss.pin x).store (zeroed w (held_length ss)) (splice resp 0 (word (judged_on s ss.pin x).judged.sw))
+    → outcome (reply (Response 2) (with_pin (holding ss None None) (judged_on s ss.pin x).given)) (judged_on s ss.pin x).store (zeroed w (held_length ss)) (splice resp 0 (word (judged_on s ss.pin x).sw))
     ≡ (delivered resp (on_refs (dropped (state s w ss)) x)).outcome
 unfolding judged_on delivered told_bytes told_answer word on_refs put_refs after with_given refs refs_in refs_onto dropped
 ref_seen s w resp ss x = refl

@@ -1,36 +1,26 @@
 -- Attempt: a value given, compared with the PIN or the PUK.
 --
---   form_of f              the form that a value must have
+--   form_of w              the form that a value of reference w must have
 --   two_values f g d       d is 16 bytes, and either half has its form
---   tried_of f ok d        what comes of comparing the first eight bytes of d with the reference f; ok says whether d has its form
---   steps_of w t           the steps made on reference w where t came of it
+--   judged_of t b hit miss     what is said where t came of it, and the PIN status after it: b where nothing was compared
 --
 -- Assumes nothing.
-use Rattle.std.specs.Prelude.{Bool, not, ◌&&◌, List, [], ◌∷◌, ℕ, eqb, length, take, drop}
-use Rattle.rules.specs.Bytes.{iff}
-use Rattle.rules.specs.Reference.{Reference, pin_form, puk_form, none_left, matches, charged}
-use Rattle.rules.specs.Command.{Which, Step, charge, equal, unequal}
-use Rattle.rules.specs.Pin.{tries_word}
-use Rattle.pin.specs.declared.attempt.Form.{Form}
-use Rattle.pin.specs.declared.attempt.Form.TheVariants.{OfPin, OfPuk}
-use Rattle.pin.specs.declared.attempt.Tried.{Tried}
-use Rattle.pin.specs.declared.attempt.Tried.TheVariants.{Refused, Unequal, Equal}
+use Rattle.std.specs.Prelude.{Result, Ok, Err, Bool, ◌&&◌, List, ℕ, eqb, length, take, drop}
+use Rattle.rules.specs.declared.Fault.TheVariants.{NotEqual}
+use Rattle.rules.specs.declared.Judged.{Judged}
+use Rattle.rules.specs.Reference.{pin_form, puk_form}
+use Rattle.rules.specs.Command.{Which, the_pin, the_puk}
+use Rattle.pin.specs.declared.attempt.Miss.{Miss}
+use Rattle.pin.specs.declared.attempt.Miss.TheVariants.{Refused, Unequal}
 
-abbrev pub form_of : Form → List ℕ → Bool
-form_of OfPin = pin_form
-form_of OfPuk = puk_form
+abbrev pub form_of : Which → List ℕ → Bool
+form_of the_pin = pin_form
+form_of the_puk = puk_form
 
 unfoldable pub two_values : (List ℕ → Bool) → (List ℕ → Bool) → List ℕ → Bool
 two_values f g d = eqb (length d) 16 && (f (take 8 d) && g (drop 8 d))
 
--- no tries left 6983; without its form 6A80; unequal 63CX with the new count
-unfoldable pub tried_of : Reference → Bool → List ℕ → Tried
-tried_of f ok d =
-    iff (none_left f) (Refused 0x6983)
-    (iff (not ok) (Refused 0x6A80)
-    (iff (matches f (take 8 d)) Equal (Unequal (tries_word (charged f)))))
-
-unfoldable pub steps_of : Which → Tried → List Step
-steps_of w (Refused _) = []
-steps_of w (Unequal _) = charge w ∷ unequal w ∷ []
-steps_of w Equal = charge w ∷ equal w ∷ []
+abbrev pub judged_of : Result (Unit {0}) Miss → Bool → Bool → Bool → Judged
+judged_of (Ok u) b hit miss = record { said = Ok tt; given = hit }
+judged_of (Err (Refused f)) b hit miss = record { said = Err f; given = b }
+judged_of (Err (Unequal n)) b hit miss = record { said = Err (NotEqual n); given = miss }

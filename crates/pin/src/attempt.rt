@@ -1,102 +1,72 @@
-// Attempt: the PIN, or the PUK, compared with a value given, as VERIFY, CHANGE REFERENCE DATA and RESET RETRY COUNTER do it. First the tests,
-// then a try is charged, then the value is compared: the try comes back only after it was found equal.
-ghost use Rattle.std.specs.Prelude.{◌≡◌, Bool, true, ◌+◌, ◌≤◌, length};
-ghost use Rattle.rules.specs.Reference.{puk_form};
-ghost use Rattle.rules.specs.Command.{the_pin, the_puk};
-ghost use Rattle.rules.specs.Pin.{the, made, refs_in, refs_onto};
-ghost use Rattle.pin.specs.Attempt.{form_of, two_values, tried_of, steps_of};
+// Attempt: a value given, compared with the PIN or the PUK, as VERIFY, CHANGE REFERENCE DATA and RESET RETRY COUNTER do it. First the tests
+// (some tries are left, and then the form), then a try is charged, then the value is compared: the try comes back only after it was found equal.
+ghost use Rattle.std.specs.Prelude.{◌≡◌, Bool, true, false, ◌-◌, MatchOption, MatchResult, take, drop};
+ghost use Rattle.rules.specs.Reference.{matches};
+ghost use Rattle.rules.specs.Command.{charge};
+ghost use Rattle.rules.specs.Pin.{the, stepped, refs_in, refs_onto};
+ghost use Rattle.pin.specs.declared.attempt.Miss.TheVariants.{Refused, Unequal};
+ghost use Rattle.pin.specs.Attempt.{form_of, two_values, judged_of};
 
+use super::secret::Secret;
+use super::tries::Tries;
 use super::{tries, values};
+use rules::{Fault, Judged, Store};
 
-// The form that a value must have: that of a PIN, or that of a PUK.
+// Why a value is not taken: nothing was compared, or it was found unequal, and so many tries are left.
 #[derive(Clone, Copy)]
-pub enum Form {
-    OfPin,
-    OfPuk,
+pub enum Miss {
+    Refused(Fault),
+    Unequal { left: u8 },
 }
 
-// What came of it: nothing was compared, and the word says why; the value was found unequal, and the word is 63CX; or equal.
-#[derive(Clone, Copy)]
-pub enum Tried {
-    Refused(u16),
-    Unequal(u16),
-    Equal,
-}
+impl From<Fault> for Miss {
+    ghost from_gives = { λ f m. m ≡ Refused f };
 
-// ---- the form of what is given
-
-// A PUK is any eight bytes.
-fn puk_form(d: &[u8]) -> bool
-    ensures { result ≡ puk_form d.now }
-{
-    d.len() == 8
-}
-
-fn has_form(f: Form, d: &[u8]) -> bool
-    ensures { result ≡ form_of f d.now }
-{
-    match f {
-        Form::OfPin => return pinform::pin_form(d),
-        Form::OfPuk => return puk_form(d),
+    fn from(fault: Fault) -> Miss {
+        Miss::Refused(fault)
     }
 }
 
 // The old value and the new one (RESET RETRY COUNTER: the PUK and the new PIN): 16 bytes, and either half has its form.
-pub fn two_values(first: Form, last: Form, field: &[u8]) -> bool
-    ensures { result ≡ two_values (form_of first) (form_of last) field.now }
+#[tactic(auto, unfolding(crate::specs::Attempt::two_values))]
+pub fn two_values<W: Secret, V: Secret>(field: &[u8]) -> Option<(&[u8; 8], &[u8; 8])>
+    ensures { MatchOption result (two_values (form_of W.which) (form_of V.which) field.now ≡ false) (λ p. (two_values (form_of W.which) (form_of V.which) field.now ≡ true) × (p.0.now ≡ take 8 field.now) × (p.1.now ≡ drop 8 field.now)) }
 {
     if field.len() != 16 {
-        return false;
+        return None;
     }
-    if !has_form(first, parts::part(field, 0, 8)) {
-        return false;
-    }
-    has_form(last, parts::part(field, 8, 8))
+    Some((W::formed(&field[..8])?, V::formed(&field[8..])?))
 }
 
-// ---- the comparison
-
-// 63CX
-pub fn tries_word(left: u8) -> u16
-    ensures { result ≡ 0x63C0 + left }
+// A try is charged, and the value is compared.
+pub fn compare<W: Secret>(store: &mut Store, tries: Tries<W>, value: &[u8; 8]) -> Result<(), Miss>
+    requires { (b : Bool) → tries.left ≡ (the (refs_in store.old b) W.which).left }
+    ensures { (b : Bool) → (store.new ≡ refs_onto store.old (stepped (refs_in store.old b) (charge W.which))) × MatchResult result (λ u. matches (the (refs_in store.old b) W.which) value.now ≡ true) (λ m. (matches (the (refs_in store.old b) W.which) value.now ≡ false) × (m ≡ Unequal ((the (refs_in store.old b) W.which).left - 1))) }
 {
-    0x63C0 + left as u16
+    let fewer = tries::charge(store, tries);
+    if values::equals::<W>(store, value) {
+        Ok(())
+    } else {
+        Err(Miss::Unequal { left: fewer.left })
+    }
 }
 
-// The PIN and the first eight bytes of a field, which has its form or not.
-pub fn compare_pin(store: &mut [u8], formed: bool, field: &[u8]) -> Tried
-    requires { (length store.old ≡ 33400) × (formed ≡ true → 8 ≤ length field.now) }
-    ensures { (b : Bool) → (result ≡ tried_of (the (refs_in store.old b) the_pin) formed field.now) × (store.new ≡ refs_onto store.old (made (refs_in store.old b) (steps_of the_pin result))) }
+// What a rule says, and the PIN status: `hit` after a value was found equal, `miss` after it was found unequal, and else as it was.
+pub fn judged(tried: Result<(), Miss>, given: bool, hit: bool, miss: bool) -> Judged
+    ensures { result ≡ judged_of tried given hit miss }
 {
-    let pin_tries = tries::pin_left(store);
-    if pin_tries.0 == 0 {
-        return Tried::Refused(0x6983);
+    match tried {
+        Ok(()) => Judged {
+            said: Ok(()),
+            given: hit,
+        },
+        Err(Miss::Refused(fault)) => Judged {
+            said: Err(fault),
+            given,
+        },
+        Err(Miss::Unequal { left }) => Judged {
+            said: Err(Fault::NotEqual { left }),
+            given: miss,
+        },
     }
-    if !formed {
-        return Tried::Refused(0x6A80);
-    }
-    let fewer = tries::charge_pin(store, pin_tries);
-    if values::pin_is(store, parts::part(field, 0, 8)) {
-        return Tried::Equal;
-    }
-    Tried::Unequal(tries_word(fewer.0))
-}
-
-// The same of the PUK.
-pub fn compare_puk(store: &mut [u8], formed: bool, field: &[u8]) -> Tried
-    requires { (length store.old ≡ 33400) × (formed ≡ true → 8 ≤ length field.now) }
-    ensures { (b : Bool) → (result ≡ tried_of (the (refs_in store.old b) the_puk) formed field.now) × (store.new ≡ refs_onto store.old (made (refs_in store.old b) (steps_of the_puk result))) }
-{
-    let puk_tries = tries::puk_left(store);
-    if puk_tries.0 == 0 {
-        return Tried::Refused(0x6983);
-    }
-    if !formed {
-        return Tried::Refused(0x6A80);
-    }
-    let fewer = tries::charge_puk(store, puk_tries);
-    if values::puk_is(store, parts::part(field, 0, 8)) {
-        return Tried::Equal;
-    }
-    Tried::Unequal(tries_word(fewer.0))
 }

@@ -1,39 +1,41 @@
 // RESET RETRY COUNTER (01, under this name): the PUK and a new PIN, in one field. Each function mirrors its rule line by line, and makes the
 // steps of its rule in their order: charge, compare, new value, restore.
-ghost use Rattle.std.specs.Prelude.{◌≡◌, false, length};
+ghost use Rattle.std.specs.Prelude.{◌≡◌, Bool, false};
 ghost use Rattle.rules.specs.Pin.{reset_given, reset, refs_in, judgement, judged_on};
+ghost use Rattle.pin.specs.Attempt.{judged_of};
 
-use super::attempt::{Form, Tried};
+use super::attempt::Miss;
+use super::secret::{Pin, Puk};
 use super::{attempt, tries, values};
-use rules::{Header, Judged};
+use rules::{Fault, Header, Judged, Store};
 
-// The PUK and a new PIN. The PIN status is not restored.
-fn reset_given(store: &mut [u8], given: bool, field: &[u8]) -> Judged
-    requires { length store.old ≡ 33400 }
-    ensures { judgement result store.new ≡ judged_on store.old given (reset_given (refs_in store.old given) field.now) }
+// The PUK and a new PIN.
+fn reset_given(store: &mut Store, field: &[u8]) -> Result<(), Miss>
+    ensures { (b : Bool) → judgement (judged_of result b b false) store.new ≡ judged_on store.old b (reset_given (refs_in store.old b) field.now) }
 {
-    let formed = attempt::two_values(Form::OfPuk, Form::OfPin, field);
-    match attempt::compare_puk(store, formed, field) {
-        Tried::Refused(sw) => Judged { sw, given },
-        Tried::Unequal(sw) => Judged { sw, given: false },
-        Tried::Equal => {
-            values::new_pin(store, parts::part(field, 8, 8));
-            tries::restore_pin(store);
-            tries::restore_puk(store);
-            Judged { sw: 0x9000, given }
-        }
-    }
+    let tries = tries::some_left::<Puk>(store)?;
+    let (puk, new) = attempt::two_values::<Puk, Pin>(field).ok_or(Fault::WrongData)?;
+    attempt::compare(store, tries, puk)?;
+    values::renew::<Pin>(store, new);
+    tries::restore::<Pin>(store);
+    tries::restore::<Puk>(store);
+    Ok(())
 }
 
-pub fn reset(store: &mut [u8], given: bool, h: Header, field: &[u8]) -> Judged
-    requires { length store.old ≡ 33400 }
+// The PIN status is not restored.
+#[tactic(auto, using(crate::proofs::Steps::quiet_on), unfolding(rules::specs::Pin::reset, rules::specs::Bytes::iff, rules::specs::Pin::refs_in))]
+pub fn reset(store: &mut Store, given: bool, h: Header, field: &[u8]) -> Judged
     ensures { judgement result store.new ≡ judged_on store.old given (reset (refs_in store.old given) h field.now) }
 {
-    if h.p1 != 0x00 {
-        return Judged { sw: 0x6A86, given };
+    match (h.p1, h.p2) {
+        (0x00, 0x80) => attempt::judged(reset_given(store, field), given, given, false),
+        (0x00, _) => Judged {
+            said: Err(Fault::NotSupported),
+            given,
+        },
+        _ => Judged {
+            said: Err(Fault::WrongParameters),
+            given,
+        },
     }
-    if h.p2 != 0x80 {
-        return Judged { sw: 0x6A81, given };
-    }
-    reset_given(store, given, field)
 }

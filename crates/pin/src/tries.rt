@@ -1,56 +1,59 @@
-// Tries: the tries left of the PIN and of the PUK in a store, read, charged and restored (01, "PIN form", "What the host lends").
+// Tries: the tries left of a reference in a store, read, charged and restored (01, "PIN form", "What the host lends").
 // Each function lends the ten bytes of its reference, and no other byte of the store is written.
-ghost use Rattle.std.specs.Prelude.{◌≡◌, Bool, ◌-◌, length};
-ghost use Rattle.rules.specs.Reference.{reference_at};
-ghost use Rattle.rules.specs.Store.{pin_at, puk_at};
-ghost use Rattle.rules.specs.Command.{the_pin, the_puk, charge, restore};
-ghost use Rattle.rules.specs.Pin.{stepped, refs_in, refs_onto};
+ghost use Rattle.std.specs.Prelude.{◌≡◌, Bool, true, false, ◌-◌, MatchResult};
+ghost use Rattle.rules.specs.declared.Fault.TheVariants.{Blocked};
+ghost use Rattle.rules.specs.Reference.{none_left};
+ghost use Rattle.rules.specs.Command.{charge, restore};
+ghost use Rattle.rules.specs.Pin.{the, stepped, refs_in, refs_onto};
 
-// 01: the PIN's tries left and the PUK's tries left are counted apart. A charge on one cannot be stored to the other.
+use super::secret::Secret;
+use rules::{Fault, Store};
+use std::marker::PhantomData;
+
+// The tries left of W. A charge on one reference cannot be stored to the other: its type says whose it is.
 #[derive(Clone, Copy)]
-pub struct PinTries(pub u8);
-
-#[derive(Clone, Copy)]
-pub struct PukTries(pub u8);
-
-pub fn pin_left(store: &[u8]) -> PinTries
-    requires { length store.now ≡ 33400 }
-    ensures { (b : Bool) → result.0 ≡ (refs_in store.now b).pin.left }
-{
-    PinTries(reference::left(&store[8..18]))
+pub struct Tries<W> {
+    pub left: u8,
+    of: PhantomData<W>,
 }
 
-pub fn puk_left(store: &[u8]) -> PukTries
-    requires { length store.now ≡ 33400 }
-    ensures { (b : Bool) → result.0 ≡ (refs_in store.now b).puk.left }
+pub fn left<W: Secret>(store: &Store) -> Tries<W>
+    ensures { (b : Bool) → result.left ≡ (the (refs_in store.now b) W.which).left }
 {
-    PukTries(reference::left(&store[18..28]))
+    let (_, from) = store.split_at(W::AT);
+    Tries {
+        left: reference::left(from.first_chunk().unwrap()),
+        of: PhantomData,
+    }
 }
 
-pub fn charge_pin(store: &mut [u8], t: PinTries) -> PinTries
-    requires { (length store.old ≡ 33400) × (t.0 ≡ (reference_at store.old pin_at).left) }
-    ensures { ((b : Bool) → store.new ≡ refs_onto store.old (stepped (refs_in store.old b) (charge the_pin))) × (result.0 ≡ t.0 - 1) }
+// A value is compared only where there is a try to be charged.
+#[tactic(auto, unfolding(rules::specs::Reference::none_left))]
+pub fn some_left<W: Secret>(store: &Store) -> Result<Tries<W>, Fault>
+    ensures { (b : Bool) → MatchResult result (λ t. (none_left (the (refs_in store.now b) W.which) ≡ false) × (t.left ≡ (the (refs_in store.now b) W.which).left)) (λ f. (none_left (the (refs_in store.now b) W.which) ≡ true) × (f ≡ Blocked)) }
 {
-    PinTries(reference::charge(&mut store[8..18], t.0))
+    let tries = left::<W>(store);
+    if tries.left == 0 {
+        Err(Fault::Blocked)
+    } else {
+        Ok(tries)
+    }
 }
 
-pub fn charge_puk(store: &mut [u8], t: PukTries) -> PukTries
-    requires { (length store.old ≡ 33400) × (t.0 ≡ (reference_at store.old puk_at).left) }
-    ensures { ((b : Bool) → store.new ≡ refs_onto store.old (stepped (refs_in store.old b) (charge the_puk))) × (result.0 ≡ t.0 - 1) }
+pub fn charge<W: Secret>(store: &mut Store, tries: Tries<W>) -> Tries<W>
+    requires { (b : Bool) → tries.left ≡ (the (refs_in store.old b) W.which).left }
+    ensures { ((b : Bool) → store.new ≡ refs_onto store.old (stepped (refs_in store.old b) (charge W.which))) × (result.left ≡ tries.left - 1) }
 {
-    PukTries(reference::charge(&mut store[18..28], t.0))
+    let (_, from) = store.split_at_mut(W::AT);
+    Tries {
+        left: reference::charge(from.first_chunk_mut().unwrap(), tries.left),
+        of: PhantomData,
+    }
 }
 
-pub fn restore_pin(store: &mut [u8])
-    requires { length store.old ≡ 33400 }
-    ensures { (b : Bool) → store.new ≡ refs_onto store.old (stepped (refs_in store.old b) (restore the_pin)) }
+pub fn restore<W: Secret>(store: &mut Store)
+    ensures { (b : Bool) → store.new ≡ refs_onto store.old (stepped (refs_in store.old b) (restore W.which)) }
 {
-    reference::restore(&mut store[8..18]);
-}
-
-pub fn restore_puk(store: &mut [u8])
-    requires { length store.old ≡ 33400 }
-    ensures { (b : Bool) → store.new ≡ refs_onto store.old (stepped (refs_in store.old b) (restore the_puk)) }
-{
-    reference::restore(&mut store[18..28]);
+    let (_, from) = store.split_at_mut(W::AT);
+    reference::restore(from.first_chunk_mut().unwrap());
 }

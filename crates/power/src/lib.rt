@@ -7,22 +7,23 @@ ghost use Rattle.rules.specs.declared.Session.{Session};
 ghost use Rattle.rules.specs.Session.{state};
 ghost use Rattle.rules.specs.Calls.{outcome, powers, call};
 
-use rules::{Answer, Permit, Reply};
+use rules::{Answer, Reply};
 
+#[tactic(auto, unfolding(rules::specs::Calls::call, rules::specs::Calls::decided, rules::specs::Calls::granted, rules::specs::Calls::powered_on, rules::specs::Calls::denied, rules::specs::Calls::lent, rules::specs::Calls::kept_session, rules::specs::Bytes::splice))]
 pub fn power_on(store: &[u8], work: &mut [u8], contactless: bool) -> Reply
     ensures { (ss : Session) → outcome result store.now work.new [] ≡ (call (state store.now work.old ss) (powers contactless)).outcome }
 {
-    let s = session::cleared(contactless);
+    let session = session::cleared(contactless);
     match permit::power_on(wellformed::well_formed(store), work.len()) {
-        Permit::Denied(x) => Reply {
-            answer: Answer::Refused(x),
-            session: s,
+        Err(refusal) => Reply {
+            answer: Answer::Refused(refusal),
+            session,
         },
-        Permit::Granted => {
+        Ok(()) => {
             octets::zero(work, 0, 13321);
             Reply {
                 answer: Answer::PoweredOn,
-                session: s,
+                session,
             }
         }
     }

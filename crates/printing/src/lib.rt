@@ -7,28 +7,26 @@ ghost use Rattle.std.specs.Prelude.{◌≡◌, ◌+◌, ◌*◌, ◌≤◌, ◌<
 ghost use Rattle.rules.specs.Bytes.{splice};
 ghost use Rattle.printing.specs.Printing.{hex_of, glyph};
 
+#[tactic(auto, unfolding(rules::specs::Bytes::iff, crate::specs::Printing::glyph))]
 fn glyph(d: u8) -> u8
     requires { d < 16 }
     ensures { result ≡ glyph d }
 {
-    if d < 10 {
-        return 48 + d;
-    }
-    55 + d
+    if d < 10 { b'0' + d } else { b'A' + d - 10 }
 }
 
+#[tactic(auto, using(std::proofs::lemmas::Grind::common_steps, crate::proofs::Laws::hex))]
 fn encode(dst: &mut [u8], s: &[u8])
     requires { length dst.old ≡ 2 * length s.now }
     ensures { dst.new ≡ hex_of s.now }
 {
-    let mut i = 0;
-    while i < s.len() {
-        dst[2 * i] = glyph(s[i] / 16);
-        dst[2 * i + 1] = glyph(s[i] % 16);
-        i += 1;
+    for (i, b) in s.iter().enumerate() {
+        dst[2 * i] = glyph(*b / 16);
+        dst[2 * i + 1] = glyph(*b % 16);
     }
 }
 
+#[tactic(auto, using(crate::proofs::Laws::hex), unfolding(rules::specs::Bytes::splice))]
 pub fn write_hex(dst: &mut [u8], at: usize, s: &[u8]) -> usize
     requires { at + 2 * length s.now ≤ length dst.old }
     ensures { (result ≡ at + 2 * length s.now) × (dst.new ≡ splice dst.old at (hex_of s.now)) }

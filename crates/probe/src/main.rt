@@ -5,242 +5,122 @@
 
 #![tactic(auto)]
 
-ghost use Rattle.std.specs.Prelude.{◌≡◌, ◌≤◌, length, IfOk, OnErr};
+ghost use Rattle.std.specs.Prelude.{◌≡◌, ◌≤◌};
 
+use feed::Feed;
 use rules::Session;
 use std::io;
-use std::io::Read;
 use verbs::{Buffer, Verb};
 
-// What a line is answered with: the session, and how much of each buffer is lent.
+// A number of bytes, at most N.
 #[derive(Clone, Copy)]
+struct UpTo<const N: usize> {
+    n: usize,
+    ghost fits: { n ≤ N },
+}
+
+// A buffer, of which the card is lent the first bytes.
+#[derive(Drop)]
+struct Lent<const N: usize> {
+    bytes: [u8; N],
+    len: UpTo<N>,
+}
+
+impl<const N: usize> Lent<N> {
+    // The bytes that a line gives from a place on, and as many are lent from now on. None where they do not fit.
+    fn lend(&mut self, line: &[u8], from: usize) -> bool {
+        let fits = placing::place(&mut self.bytes, line, 0, from);
+        if fits {
+            let n = (lines::after(line, from).len() / 2).min(N);
+            self.len = UpTo { n };
+        }
+        fits
+    }
+}
+
+// The card, with its session and what it is lent.
+#[derive(Drop)]
 struct Desk {
     session: Session,
-    store: usize,
-    work: usize,
-    resp: usize,
+    store: Lent<40000>,
+    work: Lent<20000>,
+    resp: Lent<1024>,
 }
 
-// Where the input stands after a line. The line, if there is one, is the first n bytes of its buffer; of the bytes that are
-// read, those from `at` up to `end` come next, unless the input is over.
-#[derive(Clone, Copy)]
-struct Line {
-    n: usize,
-    at: usize,
-    end: usize,
-    more: bool,
-    over: bool,
-}
-
-fn least(a: usize, b: usize) -> usize
-    ensures { result ≤ b }
-{
-    if a < b { a } else { b }
-}
-
-fn call(
-    rt: &HostRuntime,
-    d: Desk,
-    store: &mut [u8],
-    work: &mut [u8],
-    resp: &mut [u8],
-    line: &[u8],
-) -> io::Result<Desk>
-    requires { (d.store ≤ length store.old) × (d.work ≤ length work.old) × (d.resp ≤ length resp.old) × (length resp.old ≤ 1024) }
-    ensures ok { IfOk result (λ r. (r.store ≡ d.store) × (r.work ≡ d.work) × (r.resp ≡ d.resp)) }
-    ensures err { OnErr result ((length store.new ≡ length store.old) × (length work.new ≡ length work.old) × (length resp.new ≡ length resp.old)) }
-{
-    let mut out = [0u8; 4096];
-    let s = d.session;
-    let a = d.store;
-    let b = d.work;
-    let c = d.resp;
-    let said = probelines::answer(
-        s,
-        &mut store[..a],
-        &mut work[..b],
-        &mut resp[..c],
-        line,
-        &mut out,
-    );
-    let n = least(said.len, 4096);
-    rt.write_all(&out[..n])?;
-    let next = said.session;
-    Ok(Desk {
-        session: next,
-        store: a,
-        work: b,
-        resp: c,
-    })
-}
-
-// "ok" and as many bytes as the line gives, or "bad line" and as many as before.
-fn lend(
-    rt: &HostRuntime,
-    buffer: &mut [u8],
-    lent: usize,
-    line: &[u8],
-    from: usize,
-) -> io::Result<usize>
-    requires { lent ≤ length buffer.old }
-    ensures ok { IfOk result (λ n. n ≤ length buffer.old) }
-    ensures err { OnErr result (length buffer.new ≡ length buffer.old) }
-{
-    if placing::place(buffer, line, 0, from) {
-        rt.write_all(b"ok\n")?;
-        return Ok(least(lines::after(line, from).len() / 2, buffer.len()));
+impl Desk {
+    // 01's fixed card at the start of the store.
+    fn new() -> Self {
+        let mut desk = Desk {
+            session: session::cleared(false),
+            store: Lent {
+                bytes: [0; 40000],
+                len: UpTo { n: 33400 },
+            },
+            work: Lent {
+                bytes: [0; 20000],
+                len: UpTo { n: 13321 },
+            },
+            resp: Lent {
+                bytes: [0; 1024],
+                len: UpTo { n: 258 },
+            },
+        };
+        issued::fixed_card(desk.store.bytes.first_chunk_mut().unwrap());
+        desk
     }
-    rt.write_all(b"bad line\n")?;
-    Ok(lent)
-}
 
-fn lend_named(
-    rt: &HostRuntime,
-    d: Desk,
-    store: &mut [u8],
-    work: &mut [u8],
-    resp: &mut [u8],
-    line: &[u8],
-    b: Buffer,
-    from: usize,
-) -> io::Result<Desk>
-    requires { (d.store ≤ length store.old) × (d.work ≤ length work.old) × (d.resp ≤ length resp.old) }
-    ensures ok { IfOk result (λ r. (r.store ≤ length store.old) × (r.work ≤ length work.old) × (r.resp ≤ length resp.old)) }
-    ensures err { OnErr result ((length store.new ≡ length store.old) × (length work.new ≡ length work.old) × (length resp.new ≡ length resp.old)) }
-{
-    let mut next = d;
-    match b {
-        Buffer::Store => {
-            next.store = lend(rt, store, d.store, line, from)?;
-            Ok(next)
-        }
-        Buffer::Work => {
-            next.work = lend(rt, work, d.work, line, from)?;
-            Ok(next)
-        }
-        Buffer::Resp => {
-            next.resp = lend(rt, resp, d.resp, line, from)?;
-            Ok(next)
+    fn lend(&mut self, b: Buffer, line: &[u8], from: usize) -> bool {
+        match b {
+            Buffer::Store => self.store.lend(line, from),
+            Buffer::Work => self.work.lend(line, from),
+            Buffer::Resp => self.resp.lend(line, from),
         }
     }
-}
 
-fn answer(
-    rt: &HostRuntime,
-    d: Desk,
-    store: &mut [u8],
-    work: &mut [u8],
-    resp: &mut [u8],
-    line: &[u8],
-) -> io::Result<Desk>
-    requires { (d.store ≤ length store.old) × (d.work ≤ length work.old) × (d.resp ≤ length resp.old) × (length resp.old ≤ 1024) }
-    ensures ok { IfOk result (λ r. (r.store ≤ length store.old) × (r.work ≤ length work.old) × (r.resp ≤ length resp.old)) }
-    ensures err { OnErr result ((length store.new ≡ length store.old) × (length work.new ≡ length work.old) × (length resp.new ≡ length resp.old)) }
-{
-    let v = verbs::verb_of(line);
-    if let Verb::Lend(b, from) = v {
-        return lend_named(rt, d, store, work, resp, line, b, from);
+    // A line that lends no more than before: a call, or what else it comes to.
+    fn call(&mut self, rt: &HostRuntime, line: &[u8]) -> io::Result<()>
+        ensures { (self.new.store.len.n ≡ self.old.store.len.n) × (self.new.work.len.n ≡ self.old.work.len.n) × (self.new.resp.len.n ≡ self.old.resp.len.n) }
+    {
+        let mut out = [0u8; 4096];
+        let Desk {
+            session,
+            store,
+            work,
+            resp,
+        } = self;
+        let (s, w, r) = (store.len.n, work.len.n, resp.len.n);
+        let said = probelines::answer(
+            *session,
+            &mut store.bytes[..s],
+            &mut work.bytes[..w],
+            &mut resp.bytes[..r],
+            line,
+            &mut out,
+        );
+        *session = said.session;
+        rt.write_all(lines::first(&out, said.len))
     }
-    call(rt, d, store, work, resp, line)
-}
 
-// So many bytes are read; none at the end of the input.
-fn read(rt: &HostRuntime, given: &mut [u8; 4096]) -> io::Result<usize>
-    ensures { IfOk result (λ n. n ≤ 4096) }
-{
-    rt.stdin().read(given)
-}
-
-// A proved loop has to end, and nothing says that a line does: so its turns are counted, from a number that no run uses up.
-fn next(
-    rt: &HostRuntime,
-    given: &mut [u8; 4096],
-    line: &mut [u8; 100000],
-    from: usize,
-    to: usize,
-    ended: bool,
-) -> io::Result<Line>
-    requires { to ≤ 4096 }
-    ensures { IfOk result (λ l. l.end ≤ 4096) }
-{
-    let mut n = 0;
-    let mut at = from;
-    let mut end = to;
-    let mut more = false;
-    let mut over = ended;
-    let mut turns = u64::MAX;
-    while turns > 0 && !over {
-        turns -= 1;
-        if at < end {
-            let b = given[at];
-            at += 1;
-            if b == 10 {
-                more = true;
-                turns = 0;
-            } else {
-                n = keeping::keep(line, n, b);
-            }
+    fn answer(&mut self, rt: &HostRuntime, line: &[u8]) -> io::Result<()> {
+        if let Verb::Lend(b, from) = verbs::verb_of(line) {
+            let lent = self.lend(b, line, from);
+            rt.write_all(if lent { b"ok\n" } else { b"bad line\n" })
         } else {
-            end = read(rt, given)?;
-            at = 0;
-            over = end == 0;
-            more = n > 0;
+            self.call(rt, line)
         }
     }
-    Ok(Line {
-        n,
-        at,
-        end,
-        more,
-        over,
-    })
-}
-
-// The same of the lines: nothing says that they end.
-fn run(
-    rt: &HostRuntime,
-    first: Desk,
-    store: &mut [u8; 40000],
-    work: &mut [u8; 20000],
-    resp: &mut [u8; 1024],
-    given: &mut [u8; 4096],
-    line: &mut [u8; 100000],
-) -> io::Result<()>
-    requires { (first.store ≤ 40000) × (first.work ≤ 20000) × (first.resp ≤ 1024) }
-{
-    let mut desk = first;
-    let mut l = next(rt, given, line, 0, 0, false)?;
-    let mut turns = u64::MAX;
-    while turns > 0 && l.more {
-        desk = answer(rt, desk, store, work, resp, lines::first(line, l.n))?;
-        l = next(rt, given, line, l.at, l.end, l.over)?;
-        turns -= 1;
-    }
-    Ok(())
-}
-
-// 01's fixed card at the start of the buffer.
-fn start(store: &mut [u8])
-    requires { length store.old ≡ 40000 }
-{
-    issued::fixed_card(&mut store[..33400]);
 }
 
 fn main(rt: HostRuntime) -> io::Result<()> {
-    let mut store = [0u8; 40000];
-    let mut work = [0u8; 20000];
-    let mut resp = [0u8; 1024];
-    let mut given = [0u8; 4096];
+    let mut desk = Desk::new();
     let mut line = [0u8; 100000];
-    start(&mut store);
-    let s = session::cleared(false);
-    let d = Desk {
-        session: s,
-        store: 33400,
-        work: 13321,
-        resp: 258,
-    };
-    run(
-        &rt, d, &mut store, &mut work, &mut resp, &mut given, &mut line,
-    )
+    let mut feed = Feed::new(rt.stdin());
+    // Nothing says that the lines end, and a proved loop does: no run takes so many turns.
+    for _ in 0..u64::MAX {
+        let Some(n) = feed.next(&mut line)? else {
+            break;
+        };
+        desk.answer(&rt, &line[..n])?;
+    }
+    Ok(())
 }

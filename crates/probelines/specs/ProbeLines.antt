@@ -9,8 +9,9 @@
 --
 -- A line that lends another buffer is the program's own: it places the bytes and lends as many (`place` of `crates/placing`, at 0).
 -- Assumes nothing.
-use Rattle.std.specs.Prelude.{Bool, true, false, List, [], ◌∷◌, ℕ, drop}
+use Rattle.std.specs.Prelude.{Bool, true, false, Option, Some, None, List, [], ◌∷◌, ℕ, drop}
 use Rattle.rules.specs.declared.Reply.{Reply}
+use Rattle.rules.specs.declared.Session.{Session}
 use Rattle.rules.specs.Bytes.{iff}
 use Rattle.rules.specs.Session.{State, state}
 use Rattle.rules.specs.Calls.{Outcome, powers, call}
@@ -19,8 +20,6 @@ use Rattle.lines.specs.declared.What.{What}
 use Rattle.lines.specs.Asked.{asked}
 use Rattle.lines.specs.Seen.{Seen, tells, bad_line}
 use Rattle.placing.specs.Placing.{place}
-use Rattle.unpacked.specs.declared.Taken.{Taken}
-use Rattle.unpacked.specs.declared.Taken.TheVariants.{Is, No}
 use Rattle.unpacked.specs.Unpacked.{session_in}
 use Rattle.outcomes.specs.Outcomes.{outcome_line}
 use Rattle.verbs.specs.declared.Buffer.{Buffer}
@@ -53,12 +52,12 @@ asks st p w d out = iff (is_hex d) (called (call st (asked w p (bytes_of d))).ou
 
 -- ---- what is lent
 
-unfoldable pub session_at : List ℕ → Taken
-session_at d = iff (is_hex d) (session_in (bytes_of d)) No
+unfoldable pub session_at : List ℕ → Option Session
+session_at d = iff (is_hex d) (session_in (bytes_of d)) None
 
-abbrev pub taken : State → List ℕ → Taken → List ℕ → Seen
-taken st p (Is ss) out = says (state st.store st.work ss) p true out
-taken st p No out = says st p false out
+abbrev pub taken : State → List ℕ → Option Session → List ℕ → Seen
+taken st p (Some ss) out = says (state st.store st.work ss) p true out
+taken st p None out = says st p false out
 
 abbrev pub put : State → List ℕ → List ℕ → Buffer → ℕ → ℕ → List ℕ → Seen
 put st p l Store at from out =

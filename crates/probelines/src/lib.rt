@@ -1,4 +1,5 @@
 // Probe lines: what a line of the program probe comes to on the card. One function for each kind of line.
+// Session and buffers are passed one by one, as `command` of card takes them: docs/PROMISES.md names `answer` with them.
 
 #![tactic(auto)]
 
@@ -11,34 +12,38 @@ ghost use Rattle.probelines.specs.ProbeLines.{says, powered, asks, session_at, a
 
 use lines::{Said, What};
 use rules::{Reply, Session};
-use unpacked::Taken;
 use verbs::{Buffer, Verb};
 
 // ---- what is printed
 
+#[tactic(auto, using(std::proofs::lemmas::Bool::Decides::nat_tests), unfolding(crate::specs::ProbeLines::says, rules::specs::Bytes::iff))]
 fn say(session: Session, ok: bool, out: &mut [u8]) -> Said
     requires { 9 ≤ length out.old }
     ensures { (s w p : List ℕ) → seen result.session s w p result.len out.new ≡ says (state s w session) p ok out.old }
 {
-    if !ok {
-        return lines::bad(session, out);
+    if ok {
+        octets::put(out, 0, b"ok\n");
+        Said { session, len: 3 }
+    } else {
+        lines::bad(session, out)
     }
-    let text = [b'o', b'k', b'\n'];
-    octets::put(out, 0, &text);
-    Said { session, len: 3 }
 }
 
+#[tactic(auto, unfolding(crate::specs::ProbeLines::shows))]
 fn shows(r: Reply, store: &[u8], work: &[u8], resp: &[u8], out: &mut [u8]) -> Said
     requires { 2 * length resp.now + 200 ≤ length out.old }
     ensures { seen result.session store.now work.now resp.now result.len out.new ≡ shows r store.now work.now resp.now out.old }
 {
-    let session = r.session;
     let len = outcomes::write(out, r, store, work, resp);
-    Said { session, len }
+    Said {
+        session: r.session,
+        len,
+    }
 }
 
 // ---- calls
 
+#[tactic(auto, unfolding(crate::specs::ProbeLines::powered))]
 fn power_on(contactless: bool, store: &[u8], work: &mut [u8], resp: &[u8], out: &mut [u8]) -> Said
     requires { 2 * length resp.now + 200 ≤ length out.old }
     ensures { (ss : Session) → seen result.session store.now work.new resp.now result.len out.new ≡ powered (call (state store.now work.old ss) (powers contactless)).outcome resp.now out.old }
@@ -47,6 +52,7 @@ fn power_on(contactless: bool, store: &[u8], work: &mut [u8], resp: &[u8], out: 
     shows(r, store, work, resp, out)
 }
 
+#[tactic(auto, using(std::proofs::lemmas::Bool::Decides::nat_tests), unfolding(crate::specs::ProbeLines::asks, crate::specs::ProbeLines::called, rules::specs::Bytes::iff))]
 fn ask(
     session: Session,
     store: &mut [u8],
@@ -59,36 +65,35 @@ fn ask(
     requires { 2 * length resp.old + 200 ≤ length out.old }
     ensures { seen result.session store.new work.new resp.new result.len out.new ≡ asks (state store.old work.old session) resp.old what digits.now out.old }
 {
-    if !text::is_hex(digits) {
-        return lines::bad(session, out);
+    if text::is_hex(digits) {
+        let r = hexcalls::call(session, store, work, resp, what, digits);
+        shows(r, store, work, resp, out)
+    } else {
+        lines::bad(session, out)
     }
-    let r = hexcalls::call(session, store, work, resp, what, digits);
-    shows(r, store, work, resp, out)
 }
 
 // ---- what is lent
 
-fn session_at(digits: &[u8]) -> Taken
+#[tactic(auto, using(std::proofs::lemmas::Bool::Decides::nat_tests, crate::proofs::Laws::session), unfolding(crate::specs::ProbeLines::session_at, rules::specs::Bytes::iff))]
+fn session_at(digits: &[u8]) -> Option<Session>
     ensures { result ≡ session_at digits.now }
 {
-    if !text::is_hex(digits) {
-        return Taken::No;
+    if !text::is_hex(digits) || digits.len() != 128 {
+        return None;
     }
-    if digits.len() != 128 {
-        return Taken::No;
-    }
-    let mut bytes = [0u8; 64];
+    let mut bytes = [0; 64];
     text::read_hex(&mut bytes, 0, digits, 64);
     unpacked::session_in(&bytes)
 }
 
-fn take(session: Session, t: Taken, out: &mut [u8]) -> Said
+fn take(session: Session, t: Option<Session>, out: &mut [u8]) -> Said
     requires { 9 ≤ length out.old }
     ensures { (s w p : List ℕ) → seen result.session s w p result.len out.new ≡ taken (state s w session) p t out.old }
 {
     match t {
-        Taken::Is(s) => say(s, true, out),
-        Taken::No => say(session, false, out),
+        Some(s) => say(s, true, out),
+        None => say(session, false, out),
     }
 }
 
@@ -106,24 +111,18 @@ fn put(
     requires { 9 ≤ length out.old }
     ensures { seen result.session store.new work.new resp.new result.len out.new ≡ put (state store.old work.old session) resp.old line.now b at from out.old }
 {
-    match b {
-        Buffer::Store => {
-            let ok = placing::place(store, line, at, from);
-            say(session, ok, out)
-        }
-        Buffer::Work => {
-            let ok = placing::place(work, line, at, from);
-            say(session, ok, out)
-        }
-        Buffer::Resp => {
-            let ok = placing::place(resp, line, at, from);
-            say(session, ok, out)
-        }
-    }
+    // One call with a buffer that a match chooses has no proof: the check does not follow a loan that is one of three.
+    let ok = match b {
+        Buffer::Store => placing::place(store, line, at, from),
+        Buffer::Work => placing::place(work, line, at, from),
+        Buffer::Resp => placing::place(resp, line, at, from),
+    };
+    say(session, ok, out)
 }
 
 // ---- a line
 
+#[tactic(auto, unfolding(crate::specs::ProbeLines::answered, crate::specs::ProbeLines::by_verb))]
 pub fn answer(
     session: Session,
     store: &mut [u8],
@@ -148,6 +147,7 @@ pub fn answer(
             lines::after(line, from),
             out,
         ),
-        Verb::Lend(_, _) | Verb::Other => lines::bad(session, out),
+        // A buffer is lent by the program itself.
+        _ => lines::bad(session, out),
     }
 }

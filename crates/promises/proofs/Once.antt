@@ -6,22 +6,22 @@
 --
 -- `permit` promises for every store that is well formed, or is not: that still leaves one.
 -- Assumes nothing.
-use mathlib.Core.Path.{◌≡◌, refl, sym, ap}
+use mathlib.Core.Path.{◌≡◌, refl, sym, ap, ◌∙◌}
+use Rattle.std.specs.Prelude.{Option, None, Some, Result}
 use mathlib.Core.Bool.{Bool, true, false}
-use mathlib.Core.List.{List, []}
+use mathlib.Core.List.{List, [], ◌∷◌}
 use Prim.Native.Nat.{ℕ}
-use native.Mathlib.Omega.{arith}
+use lib.ListN.{get_or}
 use denote.Ref.{Bor}
-use Rattle.rules.specs.declared.Answer.TheVariants.{Response}
-use Rattle.rules.specs.declared.Checked.{Checked}
-use Rattle.rules.specs.declared.Found.{Found}
+use Rattle.rules.specs.declared.Answer.TheVariants.{PoweredOn, Response, JobOpened, Refused}
+use Rattle.rules.specs.declared.Answer.{Answer}
+use Rattle.rules.specs.declared.Fault.{Fault}
+use Rattle.rules.specs.declared.Header.{Header}
+use Rattle.rules.specs.declared.Place.{Place}
+use Rattle.rules.specs.declared.Rest.{Rest}
 use Rattle.rules.specs.declared.Reply.{Reply}
 use Rattle.rules.specs.declared.Session.{Session}
-use Rattle.rules.specs.declared.Chain.TheVariants.{Shut}
-use Rattle.rules.specs.declared.Rest.TheVariants.{Gone, Left}
-use Rattle.rules.specs.declared.Challenge.TheVariants.{Unasked}
-use Rattle.rules.specs.declared.Job.TheVariants.{Idle}
-use Rattle.rules.specs.declared.Permit.{Permit}
+use Rattle.rules.specs.Fault.{Permit, worded}
 use Rattle.rules.specs.Bytes.{zeros}
 use Rattle.rules.specs.Book.{book}
 use Rattle.rules.specs.Store.{well_formed}
@@ -33,8 +33,10 @@ use Rattle.rules.proofs.NoSecond.{no_second}
 use Rattle.rules.proofs.Cards.{fixed-well}
 use Rattle.rules.proofs.Lists.{length-zeros}
 use Rattle.saying.specs.declared.Sent.{Sent}
-use Rattle.saying.specs.declared.Sent.TheVariants.{All, First}
-use Rattle.saying.specs.Replies.{sent_reply}
+use Rattle.saying.specs.Replies.{after_sent, sent_reply}
+use Rattle.table.specs.declared.Slot.{Slot}
+use Rattle.table.specs.declared.Slot.TheVariants.{Capability, Chuid, Certificate9A, Fingerprints, Security, Face, Certificate9E, Certificate9C, Certificate9D, Printed, KeyHistory, Discovery}
+use Rattle.table.specs.Slots.{index_in}
 use Rattle.parts.proofs.same.Reads as parts_same
 use Rattle.parts.proofs.part.Reads as parts-part
 use Rattle.octets.proofs.put.Reads as octets-put
@@ -106,7 +108,7 @@ by_outcome p q =
     (ap (λ (o : Outcome). o.reply) e, ap (λ (o : Outcome). o.store) e, ap (λ (o : Outcome). o.work) e, ap (λ (o : Outcome). o.resp) e)
 
 any_session : Session
-any_session = record { contactless = false; pin = false; admin = false; chain = Shut; rest = Gone; challenge = Unasked; job = Idle }
+any_session = record { contactless = false; pin = false; admin = false; chain = None; rest = None; challenge = None; job = None }
 
 -- ---- octets
 
@@ -114,7 +116,7 @@ once_parts-same : (κs : _) (a : _) (r q : Bool) (s t : _) → parts_same.Post �
 once_parts-same κs a r q s t = alike r q
 
 once_parts-part : (κs : _) (a : _) (r q : Bor (List ℕ)) (s t : _) → parts-part.Post κs a r s → parts-part.Post κs a q t → r.now ≡ q.now
-once_parts-part κs a r q s t = alike _ _
+once_parts-part κs a r q s t x y = alike _ _ x.0 y.0
 
 once_octets-put : (κs : _) (a : _) (s t : _) → octets-put.Post κs a tt s → octets-put.Post κs a tt t → s.0.now ≡ t.0.now
 once_octets-put κs a s t = alike _ _
@@ -142,24 +144,24 @@ once_numbers-be64 κs a r q s t = alike r q
 -- ---- ber
 
 once_ber-length_bytes : (κs : _) (a : _) (r q : ℕ) (s t : _) → ber-length-bytes.Post κs a r s → ber-length-bytes.Post κs a q t → r ≡ q
-once_ber-length_bytes κs a r q s t = alike r q
+once_ber-length_bytes κs a r q s t x y = alike r q x.0 y.0
 
-once_ber-read_object : (κs : _) (a : _) (r q : Found) (s t : _) → ber-read-object.Post κs a r s → ber-read-object.Post κs a q t → r ≡ q
-once_ber-read_object κs a r q s t = alike r q
+once_ber-read_object : (κs : _) (a : _) (r q : Option Place) (s t : _) → ber-read-object.Post κs a r s → ber-read-object.Post κs a q t → r ≡ q
+once_ber-read_object κs a r q s t x y = alike r q x.0 y.0
 
 once_heads-write_head : (κs : _) (a : _) (r q : ℕ) (s t : _) → heads-write-head.Post κs a r s → heads-write-head.Post κs a q t → (r ≡ q) × (s.0.now ≡ t.0.now)
-once_heads-write_head κs a r q s t x y = (alike r q x.0 y.0, alike _ _ x.1 y.1)
+once_heads-write_head κs a r q s t x y = (alike r q x.0 y.0, alike _ _ x.1.0 y.1.0)
 
 -- ---- reader
 
-once_reader-first : (κs : _) (a : _) (r q : Found) (s t : _) → reader-first.Post κs a r s → reader-first.Post κs a q t → r ≡ q
-once_reader-first κs a r q s t = alike r q
+once_reader-first : (κs : _) (a : _) (r q : Option Place) (s t : _) → reader-first.Post κs a r s → reader-first.Post κs a q t → r ≡ q
+once_reader-first κs a r q s t x y = alike r q x.0 y.0
 
-once_reader-only : (κs : _) (a : _) (r q : Found) (s t : _) → reader-only.Post κs a r s → reader-only.Post κs a q t → r ≡ q
-once_reader-only κs a r q s t = alike r q
+once_reader-only : (κs : _) (a : _) (r q : Option Place) (s t : _) → reader-only.Post κs a r s → reader-only.Post κs a q t → r ≡ q
+once_reader-only κs a r q s t x y = alike r q x.0 y.0
 
-once_reader-last : (κs : _) (a : _) (r q : Found) (s t : _) → reader-last.Post κs a r s → reader-last.Post κs a q t → r ≡ q
-once_reader-last κs a r q s t = alike r q
+once_reader-last : (κs : _) (a : _) (r q : Option Place) (s t : _) → reader-last.Post κs a r s → reader-last.Post κs a q t → r ≡ q
+once_reader-last κs a r q s t x y = alike r q x.0 y.0
 
 -- ---- session
 
@@ -196,14 +198,14 @@ store_is_lem false = refl
 
 once_permit-power_on : (κs : _) (a : _) (r q : Permit) (s t : _) → permit-power-on.Post κs a r s → permit-power-on.Post κs a q t → r ≡ q
 once_permit-power_on κs a r q s t x y =
-    alike r q (x (store_of a.0) (zeros a.1.0) any_session false (store_is_lem a.0) (length-zeros a.1.0)) (y (store_of a.0) (zeros a.1.0) any_session false (store_is_lem a.0) (length-zeros a.1.0))
+    alike r q (x.0 (store_of a.0) (zeros a.1.0) any_session false (store_is_lem a.0) (length-zeros a.1.0)) (y.0 (store_of a.0) (zeros a.1.0) any_session false (store_is_lem a.0) (length-zeros a.1.0))
 
 once_permit-command : (κs : _) (a : _) (r q : Permit) (s t : _) → permit-command.Post κs a r s → permit-command.Post κs a q t → r ≡ q
 once_permit-command κs a r q s t x y =
     let k = store_of a.0 in
     let w = zeros a.1.1.1.0 in
     let b = zeros a.1.1.0 in
-    alike r q (x k w b [] (store_is_lem a.0) (length-zeros a.1.1.1.0) (length-zeros a.1.1.0)) (y k w b [] (store_is_lem a.0) (length-zeros a.1.1.1.0) (length-zeros a.1.1.0))
+    alike r q (x.0 k w b [] (store_is_lem a.0) (length-zeros a.1.1.1.0) (length-zeros a.1.1.0)) (y.0 k w b [] (store_is_lem a.0) (length-zeros a.1.1.1.0) (length-zeros a.1.1.0))
 
 once_permit-job_result : (κs : _) (a : _) (r q : Permit) (s t : _) → permit-job-result.Post κs a r s → permit-job-result.Post κs a q t → r ≡ q
 once_permit-job_result κs a r q s t x y =
@@ -211,8 +213,8 @@ once_permit-job_result κs a r q s t x y =
     let n = a.1.1.1.1.1.0 in
     let w = zeros a.1.1.1.0 in
     let b = zeros a.1.1.0 in
-    alike r q (x k w b (zeros n) (store_is_lem a.0) (length-zeros a.1.1.1.0) (length-zeros a.1.1.0) (length-zeros n))
-    (y k w b (zeros n) (store_is_lem a.0) (length-zeros a.1.1.1.0) (length-zeros a.1.1.0) (length-zeros n))
+    alike r q (x.0 k w b (zeros n) (store_is_lem a.0) (length-zeros a.1.1.1.0) (length-zeros a.1.1.0) (length-zeros n))
+    (y.0 k w b (zeros n) (store_is_lem a.0) (length-zeros a.1.1.1.0) (length-zeros a.1.1.0) (length-zeros n))
 
 -- ---- table
 
@@ -222,11 +224,37 @@ once_table-capacity κs a r q s t = alike r q
 once_table-offset : (κs : _) (a : _) (r q : ℕ) (s t : _) → table-offset.Post κs a r s → table-offset.Post κs a q t → r ≡ q
 once_table-offset κs a r q s t = alike r q
 
-once_table-slot_named : (κs : _) (a : _) (r q : ℕ) (s t : _) → table-slot-named.Post κs a r s → table-slot-named.Post κs a q t → r ≡ q
-once_table-slot_named κs a r q s t = alike r q
+-- the slot with a number, so that a slot is given by its number
+in_order : List (Option Slot)
+in_order =
+    Some Capability ∷ Some Chuid ∷ Some Certificate9A ∷ Some Fingerprints ∷ Some Security ∷ Some Face
+    ∷ Some Certificate9E ∷ Some Certificate9C ∷ Some Certificate9D ∷ Some Printed ∷ Some KeyHistory ∷ Some Discovery ∷ []
+
+slot_with : ℕ → Option Slot
+unfolding in_order
+slot_with n = get_or in_order n None
+
+by_number : (o : Option Slot) → slot_with (index_in o) ≡ o
+unfolding slot_with in_order
+by_number None = refl
+by_number (Some Capability) = refl
+by_number (Some Chuid) = refl
+by_number (Some Certificate9A) = refl
+by_number (Some Fingerprints) = refl
+by_number (Some Security) = refl
+by_number (Some Face) = refl
+by_number (Some Certificate9E) = refl
+by_number (Some Certificate9C) = refl
+by_number (Some Certificate9D) = refl
+by_number (Some Printed) = refl
+by_number (Some KeyHistory) = refl
+by_number (Some Discovery) = refl
+
+once_table-slot_named : (κs : _) (a : _) (r q : Option Slot) (s t : _) → table-slot-named.Post κs a r s → table-slot-named.Post κs a q t → r ≡ q
+once_table-slot_named κs a r q s t x y = sym (by_number r) ∙ ap slot_with (alike _ _ x y) ∙ by_number q
 
 once_table-takes : (κs : _) (a : _) (r q : Bool) (s t : _) → table-takes.Post κs a r s → table-takes.Post κs a q t → r ≡ q
-once_table-takes κs a r q s t x y = alike r q (x []) (y [])
+once_table-takes κs a r q s t x y = alike r q (x.0 []) (y.0 [])
 
 -- ---- pinform
 
@@ -266,7 +294,7 @@ once_store-algorithm : (κs : _) (a : _) (r q : ℕ) (s t : _) → store-algorit
 once_store-algorithm κs a r q s t = alike r q
 
 once_store-object : (κs : _) (a : _) (r q : Bor (List ℕ)) (s t : _) → store-object.Post κs a r s → store-object.Post κs a q t → r.now ≡ q.now
-once_store-object κs a r q s t = alike _ _
+once_store-object κs a r q s t x y = alike _ _ x.0 y.0
 
 once_store-put_object : (κs : _) (a : _) (s t : _) → store-put-object.Post κs a tt s → store-put-object.Post κs a tt t → s.0.now ≡ t.0.now
 once_store-put_object κs a s t = alike _ _
@@ -274,10 +302,10 @@ once_store-put_object κs a s t = alike _ _
 -- ---- held
 
 once_held-drop_held : (κs : _) (a : _) (r q : Session) (s t : _) → held-drop-held.Post κs a r s → held-drop-held.Post κs a q t → (r ≡ q) × (s.1.0.now ≡ t.1.0.now)
-once_held-drop_held κs a r q s t x y = by_state (x []) (y [])
+once_held-drop_held κs a r q s t x y = by_state (x.0 []) (y.0 [])
 
 once_held-based : (κs : _) (a : _) (r q : Session) (s t : _) → held-based.Post κs a r s → held-based.Post κs a q t → (r ≡ q) × (s.1.0.now ≡ t.1.0.now)
-once_held-based κs a r q s t x y = by_state (x []) (y [])
+once_held-based κs a r q s t x y = by_state (x.0 []) (y.0 [])
 
 once_held-hold_piece : (κs : _) (a : _) (r q : Session) (s t : _) → held-hold-piece.Post κs a r s → held-hold-piece.Post κs a q t → (r ≡ q) × (s.1.0.now ≡ t.1.0.now)
 once_held-hold_piece κs a r q s t x y = by_state (x []) (y [])
@@ -296,27 +324,23 @@ once_saying-told κs a r q s t = alike r q
 -- ---- sending
 
 -- what went out shows in what the host is told of it
-same_sent : (x y : Sent) → sent_reply any_session x ≡ sent_reply any_session y → x ≡ y
+length_told : Answer → ℕ
+length_told PoweredOn = 0
+length_told (Response n) = n
+length_told (JobOpened key alg n) = n
+length_told (Refused r) = 0
+
+rest_told : (r : Option Rest) → (after_sent any_session r).rest ≡ r
 unfolding any_session
-same_sent (All n) (All k) e =
-    let q : Response n ≡ Response k = ap (λ (r : Reply). r.answer) e in
-    let z : n ≡ k = cc in
-    ap All z
-same_sent (All n) (First k w f) e =
-    let q : Gone ≡ Left w f = ap (λ (r : Reply). r.session.rest) e in
-    let z : ◌≡◌ {A = ℕ} 0 1 = cc in
-    absurd (omega arith)
-same_sent (First n w f) (All k) e =
-    let q : Left w f ≡ Gone = ap (λ (r : Reply). r.session.rest) e in
-    let z : ◌≡◌ {A = ℕ} 0 1 = cc in
-    absurd (omega arith)
-same_sent (First n w f) (First k v g) e =
-    let p : Response n ≡ Response k = ap (λ (r : Reply). r.answer) e in
-    let q : Left w f ≡ Left v g = ap (λ (r : Reply). r.session.rest) e in
-    let x : n ≡ k = cc in
-    let y : w ≡ v = cc in
-    let z : f ≡ g = cc in
-    λ i. First (x i) (y i) (z i)
+rest_told None = refl
+rest_told (Some r) = refl
+
+same_sent : (x y : Sent) → sent_reply any_session x ≡ sent_reply any_session y → x ≡ y
+unfolding length_told
+same_sent x y e =
+    let n : x.len ≡ y.len = ap (λ (r : Reply). length_told r.answer) e in
+    let rest : x.rest ≡ y.rest = sym (rest_told x.rest) ∙ ap (λ (r : Reply). r.session.rest) e ∙ rest_told y.rest in
+    λ i. record { len = n i; rest = rest i }
 
 once_sending-send : (κs : _) (a : _) (r q : Sent) (s t : _) → sending-send.Post κs a r s → sending-send.Post κs a q t → (r ≡ q) × (s.0.now ≡ t.0.now) × (s.1.0.now ≡ t.1.0.now)
 once_sending-send κs a r q s t x y = let e = by_outcome (x any_session []) (y any_session []) in (same_sent r q e.0, e.2, e.3)
@@ -326,8 +350,9 @@ once_sending-fetch κs a r q s t x y = let e = by_outcome (x []) (y []) in (e.0,
 
 -- ---- apdu
 
-once_apdu-check : (κs : _) (a : _) (r q : Checked) (s t : _) → apdu-check.Post κs a r s → apdu-check.Post κs a q t → r ≡ q
-once_apdu-check κs a r q s t = alike r q
+-- the same header, or the same status word
+once_apdu-check : (κs : _) (a : _) (r q : Result Header Fault) (s t : _) → apdu-check.Post κs a r s → apdu-check.Post κs a q t → worded r ≡ worded q
+once_apdu-check κs a r q s t x y = alike _ _ x.0 y.0
 
 -- ---- objects
 

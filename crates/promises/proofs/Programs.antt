@@ -8,13 +8,13 @@ use mathlib.Core.Bool.{Bool}
 use mathlib.Core.List.{List, []}
 use Prim.Native.Nat.{ℕ}
 use denote.Ref.{Bor}
+use Rattle.std.specs.Prelude.{Option}
 use Rattle.rules.specs.declared.Reply.{Reply}
 use Rattle.rules.specs.declared.Session.{Session}
 use Rattle.keeping.specs.Keeping.{Kept, kept}
 use Rattle.lines.specs.declared.Said.{Said}
 use Rattle.lines.specs.Seen.{Seen, seen}
 use Rattle.placing.specs.Placing.{Placed, placed}
-use Rattle.unpacked.specs.declared.Taken.{Taken}
 use Rattle.verbs.specs.declared.Verb.{Verb}
 use Rattle.issued.proofs.fixed_card.Reads as issued-fixed-card
 use Rattle.text.proofs.is_hex.Reads as text-is-hex
@@ -95,7 +95,7 @@ once_packed-pack κs a s t = alike _ _
 
 -- ---- unpacked
 
-once_unpacked-session_in : (κs : _) (a : _) (r q : Taken) (s t : _) → unpacked-session-in.Post κs a r s → unpacked-session-in.Post κs a q t → r ≡ q
+once_unpacked-session_in : (κs : _) (a : _) (r q : Option Session) (s t : _) → unpacked-session-in.Post κs a r s → unpacked-session-in.Post κs a q t → r ≡ q
 once_unpacked-session_in κs a r q s t = alike r q
 
 -- ---- outcomes

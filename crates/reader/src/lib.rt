@@ -4,11 +4,11 @@
 
 #![tactic(auto)]
 
-ghost use Rattle.std.specs.Prelude.{◌≡◌};
+ghost use Rattle.std.specs.Prelude.{◌≡◌, ◌+◌, ◌≤◌, length, IfSome};
 ghost use Rattle.rules.specs.Ber.{object_at, ending, last_at};
 ghost use Rattle.reader.specs.Read.{after, behind_first};
 
-use rules::Found;
+use rules::Place;
 
 #[derive(Clone, Copy)]
 struct Reader<'a> {
@@ -16,79 +16,69 @@ struct Reader<'a> {
     at: usize,
 }
 
-// ---- over the reader
+impl<'a> Reader<'a> {
+    fn new(field: &'a [u8]) -> Reader<'a>
+        ensures field { result.field ≡ field.entry }
+        ensures start { result.at ≡ 0 }
+    {
+        Reader { field, at: 0 }
+    }
 
-fn new<'a>(field: &'a [u8]) -> Reader<'a>
-    ensures { (result.field ≡ field.entry) × (result.at ≡ 0) }
-{
-    Reader { field, at: 0 }
+    // The object that stands here. The reader then stands behind it, or at the end where it is missing.
+    fn read(&mut self, tag: u8) -> Option<Place>
+        ensures object { result ≡ object_at self.old.field.now self.old.at tag }
+        ensures inside { IfSome result (λ v. v.from + v.len ≤ length self.old.field.now) }
+        ensures behind { self.new.at ≡ after self.old.field.now result }
+        ensures field { self.new.field ≡ self.old.field }
+    {
+        let found = ber::read_object(self.field, self.at, tag);
+        self.at = match found {
+            Some(v) => v.from + v.len,
+            None => self.field.len(),
+        };
+        found
+    }
 }
 
-// The object that stands here.
-fn object<'a>(r: Reader<'a>, tag: u8) -> Found
-    ensures { result ≡ object_at r.entry.field.now r.entry.at tag }
-{
-    ber::read_object(r.field, r.at, tag)
-}
-
-// The reader behind that object.
-fn behind<'a>(r: Reader<'a>, tag: u8) -> Reader<'a>
-    ensures { (result.field ≡ r.entry.field) × (result.at ≡ after r.entry.field.now (object_at r.entry.field.now r.entry.at tag)) }
-{
-    let at = place_after(r.field, r.at, tag);
-    Reader { field: r.field, at }
-}
-
-// ---- over a slice and numbers
-
-fn place_after(s: &[u8], at: usize, tag: u8) -> usize
-    ensures { result ≡ after s.now (object_at s.now at tag) }
-{
-    let Found::Value { from, len } = ber::read_object(s, at, tag) else {
-        return s.len();
-    };
-    from + len
-}
+// ---- over a slice
 
 // "And no more": the object ends where the field ends.
-fn ends(s: &[u8], f: Found) -> Found
-    ensures { result ≡ ending s.now f }
+#[tactic(auto, unfolding(rules::specs::Ber::ending, rules::specs::Bytes::iff))]
+fn ends(s: &[u8], f: Option<Place>) -> Option<Place>
+    requires { IfSome f (λ v. v.from + v.len ≤ length s.now) }
+    ensures ending { result ≡ ending s.now f }
+    ensures inside { IfSome result (λ v. v.from + v.len ≡ length s.now) }
 {
-    let Found::Value { from, len } = f else {
-        return Found::Missing;
-    };
-    if s.len() < from {
-        return Found::Missing;
+    match f {
+        Some(v) if v.from + v.len == s.len() => f,
+        _ => None,
     }
-    if s.len() - from != len {
-        return Found::Missing;
-    }
-    Found::Value { from, len }
 }
 
 // The object at the start of a field.
-pub fn first(field: &[u8], tag: u8) -> Found
-    ensures { result ≡ object_at field.now 0 tag }
+pub fn first(field: &[u8], tag: u8) -> Option<Place>
+    ensures read { result ≡ object_at field.now 0 tag }
+    ensures inside { IfSome result (λ v. v.from + v.len ≤ length field.now) }
 {
-    object(new(field), tag)
-}
-
-fn second(field: &[u8], tag: u8, next: u8) -> Found
-    ensures { result ≡ object_at field.now (behind_first field.now tag) next }
-{
-    object(behind(new(field), tag), next)
+    Reader::new(field).read(tag)
 }
 
 // The object that is all of a field.
-pub fn only(field: &[u8], tag: u8) -> Found
-    ensures { result ≡ last_at field.now 0 tag }
+#[tactic(auto, unfolding(rules::specs::Ber::last_at))]
+pub fn only(field: &[u8], tag: u8) -> Option<Place>
+    ensures read { result ≡ last_at field.now 0 tag }
+    ensures inside { IfSome result (λ v. v.from + v.len ≡ length field.now) }
 {
     ends(field, first(field, tag))
 }
 
 // The object that stands behind the first one, and ends the field.
-pub fn last(field: &[u8], tag: u8, next: u8) -> Found
-    ensures { result ≡ last_at field.now (behind_first field.now tag) next }
+#[tactic(auto, unfolding(rules::specs::Ber::last_at, crate::specs::Read::behind_first))]
+pub fn last(field: &[u8], tag: u8, next: u8) -> Option<Place>
+    ensures read { result ≡ last_at field.now (behind_first field.now tag) next }
+    ensures inside { IfSome result (λ v. v.from + v.len ≡ length field.now) }
 {
-    ends(field, second(field, tag, next))
+    let mut reader = Reader::new(field);
+    let _first = reader.read(tag);
+    ends(field, reader.read(next))
 }

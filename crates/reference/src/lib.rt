@@ -3,21 +3,20 @@
 
 #![tactic(auto)]
 
-ghost use Rattle.std.specs.Prelude.{◌≡◌, ◌-◌, length};
+ghost use Rattle.std.specs.Prelude.{◌≡◌, ◌-◌};
 ghost use Rattle.rules.specs.Reference.{matches, charged, restored, renewed, reference_at, put_reference};
 
 // ---- the ten bytes read
 
-pub fn left(ten: &[u8]) -> u8
-    requires { length ten.now ≡ 10 }
+#[tactic(auto, unfolding(rules::specs::Reference::reference_at))]
+pub fn left(ten: &[u8; 10]) -> u8
     ensures { result ≡ (reference_at ten.now 0).left }
 {
     ten[1]
 }
 
 // As one number: no byte of the value ends the comparison before the others.
-pub fn equals(ten: &[u8], d: &[u8]) -> bool
-    requires { (length ten.now ≡ 10) × (length d.now ≡ 8) }
+pub fn equals(ten: &[u8; 10], d: &[u8; 8]) -> bool
     ensures { result ≡ matches (reference_at ten.now 0) d.now }
 {
     numbers::be64(ten, 2) == numbers::be64(d, 0)
@@ -26,34 +25,26 @@ pub fn equals(ten: &[u8], d: &[u8]) -> bool
 // ---- steps, each of which writes its own bytes and no other
 
 // 0 stays 0.
-fn less(n: u8) -> u8
-    ensures { result ≡ n - 1 }
-{
-    if n == 0 {
-        return 0;
-    }
-    n - 1
-}
-
-pub fn charge(ten: &mut [u8], left: u8) -> u8
-    requires { (length ten.old ≡ 10) × (left ≡ (reference_at ten.old 0).left) }
+#[tactic(auto, unfolding(rules::specs::Reference::reference_at, rules::specs::Reference::put_reference, rules::specs::Reference::charged, rules::specs::Bytes::splice, rules::specs::Bytes::part))]
+pub fn charge(ten: &mut [u8; 10], left: u8) -> u8
+    requires { left ≡ (reference_at ten.old 0).left }
     ensures { (ten.new ≡ put_reference ten.old 0 (charged (reference_at ten.old 0))) × (result ≡ left - 1) }
 {
-    let fewer = less(left);
+    let fewer = left.saturating_sub(1);
     octets::put_byte(ten, 1, fewer);
     fewer
 }
 
-pub fn restore(ten: &mut [u8])
-    requires { length ten.old ≡ 10 }
+#[tactic(auto, unfolding(rules::specs::Reference::reference_at, rules::specs::Reference::put_reference, rules::specs::Reference::restored, rules::specs::Bytes::splice, rules::specs::Bytes::part))]
+pub fn restore(ten: &mut [u8; 10])
     ensures { ten.new ≡ put_reference ten.old 0 (restored (reference_at ten.old 0)) }
 {
     let limit = ten[0];
     octets::put_byte(ten, 1, limit);
 }
 
-pub fn renew(ten: &mut [u8], value: &[u8])
-    requires { (length ten.old ≡ 10) × (length value.now ≡ 8) }
+#[tactic(auto, unfolding(rules::specs::Reference::reference_at, rules::specs::Reference::put_reference, rules::specs::Reference::renewed, rules::specs::Bytes::splice, rules::specs::Bytes::part))]
+pub fn renew(ten: &mut [u8; 10], value: &[u8; 8])
     ensures { ten.new ≡ put_reference ten.old 0 (renewed (reference_at ten.old 0) value.now) }
 {
     octets::put(ten, 2, value);

@@ -17,7 +17,9 @@ use lib.ListN.{length, get_or}
 use borrow.Author.Tests.{le-ltb, lt-leb, not-true}
 use Rattle.rules.specs.declared.Session.{Session}
 use Rattle.rules.specs.Bytes.{iff, all_below, splice, be16}
-use Rattle.rules.specs.Store.{Access, always, PIN, never, contact_read, contactless_read, slots, capacity, offset, slot_length, object_of}
+use Rattle.rules.specs.declared.Access.{Access}
+use Rattle.rules.specs.declared.Access.TheVariants.{Always, WithPin, Never}
+use Rattle.rules.specs.Store.{contact_read, contactless_read, slots, capacity, offset, slot_length, object_of}
 use Rattle.rules.specs.Session.{allows, readable}
 use Rattle.rules.specs.Claims.Secrecy.{within, is_pin, pin_read, any_below, in_pin_read, secret, Alike}
 use Rattle.rules.proofs.Tests.{on, off, and_off_left, and_off_right, or-none, or-other, at_each, by_order, by_equal}
@@ -85,23 +87,23 @@ module _ (s t : List ℕ) (al : Alike s t) where
 -- ---- reading without the PIN
 
 abbrev is_always : Access → Bool
-is_always always = true
-is_always PIN = false
-is_always never = false
+is_always Always = true
+is_always WithPin = false
+is_always Never = false
 
 allowed-always : (ss : Session) → ss.pin ≡ false → (a : Access) → is_pin a ≡ false → allows ss a ≡ true → is_always a ≡ true
-allowed-always ss pn always o e = refl
-allowed-always ss pn PIN o e = absurd (true≢false o)
-allowed-always ss pn never o e = e
+allowed-always ss pn Always o e = refl
+allowed-always ss pn WithPin o e = absurd (true≢false o)
+allowed-always ss pn Never o e = e
 
 not-pin : (ss : Session) → ss.pin ≡ false → (a : Access) → allows ss a ≡ true → is_pin a ≡ false
-not-pin ss pn always e = refl
-not-pin ss pn PIN e = absurd (true≢false (sym e ∙ pn))
-not-pin ss pn never e = refl
+not-pin ss pn Always e = refl
+not-pin ss pn WithPin e = absurd (true≢false (sym e ∙ pn))
+not-pin ss pn Never e = refl
 
 -- by the table: what may be read always without contact is not PIN-read
 unfoldable open_air : ℕ → Bool
-open_air i = not (is_always (get_or contactless_read i never)) || not (pin_read i)
+open_air i = not (is_always (get_or contactless_read i Never)) || not (pin_read i)
 
 air_all : all_below open_air slots ≡ true
 unfolding open_air pin_read
@@ -111,9 +113,9 @@ pub open_slot : (ss : Session) → ss.pin ≡ false → (i : ℕ) → i < slots 
 unfolding readable open_air pin_read
 open_slot ss pn i hi = go ss.contactless
   where
-    go : (air : Bool) → allows ss (iff air (get_or contactless_read i never) (get_or contact_read i never)) ≡ true → pin_read i ≡ false
+    go : (air : Bool) → allows ss (iff air (get_or contactless_read i Never) (get_or contact_read i Never)) ≡ true → pin_read i ≡ false
     go true e =
-        let a : Access = get_or contactless_read i never in
-        let y : allows ss a ≡ true = subst (λ (x : Access). allows ss x ≡ true) (on true a (get_or contact_read i never) refl) e in
+        let a : Access = get_or contactless_read i Never in
+        let y : allows ss a ≡ true = subst (λ (x : Access). allows ss x ≡ true) (on true a (get_or contact_read i Never) refl) e in
         not-true _ (or-other (not (is_always a)) (not (pin_read i)) (at_each open_air slots air_all i hi) (ap not (allowed-always ss pn a (not-pin ss pn a y) y)))
-    go false e = not-pin ss pn (get_or contact_read i never) (subst (λ (x : Access). allows ss x ≡ true) (off false (get_or contactless_read i never) (get_or contact_read i never) refl) e)
+    go false e = not-pin ss pn (get_or contact_read i Never) (subst (λ (x : Access). allows ss x ≡ true) (off false (get_or contactless_read i Never) (get_or contact_read i Never) refl) e)

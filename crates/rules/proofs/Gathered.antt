@@ -6,6 +6,7 @@
 --   pieces-put             once all pieces are answered 9000, the slot holds the value
 --
 -- Assumes nothing.
+use Rattle.std.specs.Prelude.{Option, None, Some, Ok}
 use mathlib.Core.Path.{◌≡◌, refl, ap, sym, ◌∙◌, subst}
 use mathlib.Core.Bool.{Bool, true, false, not}
 use mathlib.Core.List.{List, [], ◌++◌, append_assoc}
@@ -16,17 +17,13 @@ use lib.ListN.{length, take, length-append}
 use lib.Seq.{length-take-le}
 use borrow.Author.Tests.{eqb-true, eq-eqb, lt-ltb}
 use Rattle.rules.specs.declared.Chain.{Chain}
-use Rattle.rules.specs.declared.Chain.TheVariants.{Shut, Open}
-use Rattle.rules.specs.declared.Challenge.{Challenge}
 use Rattle.rules.specs.declared.Header.{Header}
-use Rattle.rules.specs.declared.Checked.TheVariants.{Passed}
-use Rattle.rules.specs.declared.Put.TheVariants.{Object}
-use Rattle.rules.specs.Ber.{ber_length, tlv}
+use Rattle.rules.specs.Ber.{ber_length, tlv, place}
 use Rattle.rules.specs.Store.{work_size, slots, object_of, takes}
 use Rattle.rules.specs.Session.{State, chain_length, job_open}
 use Rattle.rules.specs.Command.{field_of, check, in_slot, Made, says}
-use Rattle.rules.specs.Held.{calm, dropped, goes_on, based, gathered, held_piece, closed, piece}
-use Rattle.rules.specs.Objects.{stored, put_slot, put_whole, put_each, put_piece, put_data}
+use Rattle.rules.specs.Held.{calm, dropped, goes_on, based, gathered, held_piece, closed, piece, chain_of}
+use Rattle.rules.specs.Objects.{stored, put_slot, put_whole, put_each, put_piece, put_data, put_of}
 use Rattle.rules.specs.Calls.{ruled, obeyed, command, Call, Result, interrupts, delivered, granted, decided, call}
 use Rattle.rules.specs.Runs.{leaves, end_of}
 use Rattle.rules.specs.Claims.Invariants.{Plain, Each}
@@ -44,13 +41,13 @@ use Rattle.rules.proofs.Pieces.{Formed, put_form_lem}
 
 -- ---- a call that is a piece
 
-ruled-put : (st : State) (ch : Challenge) (h : Header) (d : List ℕ) → h.ins ≡ 0xDB → ruled st ch h d ≡ put_data st h d
+ruled-put : (st : State) (ch : Option ℕ) (h : Header) (d : List ℕ) → h.ins ≡ 0xDB → ruled st ch h d ≡ put_data st h d
 unfolding ruled
 ruled-put st ch h d e =
     off _ _ _ (ap (λ (n : ℕ). eqb n 0xA4) e) ∙ off _ _ _ (ap (λ (n : ℕ). eqb n 0xCB) e) ∙ off _ _ _ (ap (λ (n : ℕ). eqb n 0xC0) e) ∙ off _ _ _ (ap (λ (n : ℕ). eqb n 0x20) e)
     ∙ off _ _ _ (ap (λ (n : ℕ). eqb n 0x24) e) ∙ off _ _ _ (ap (λ (n : ℕ). eqb n 0x2C) e) ∙ off _ _ _ (ap (λ (n : ℕ). eqb n 0x87) e)
 
-pub command-put : (st : State) (c : List ℕ) (h : Header) → check st.session.contactless c ≡ Passed h → h.ins ≡ 0xDB
+pub command-put : (st : State) (c : List ℕ) (h : Header) → check st.session.contactless c ≡ Ok h → h.ins ≡ 0xDB
     → command st c ≡ put_piece (based (calm st) h) h (field_of c h)
 unfolding command obeyed put_data
 command-put st c h e i = ap (obeyed (calm st) st.session.challenge c) e ∙ ruled-put (calm st) st.session.challenge h (field_of c h) i
@@ -108,10 +105,10 @@ Has st g = (h : Header) → h.ins ≡ 0xDB → h.p1 ≡ 0x3F → h.p2 ≡ 0xFF
     → take (chain_length (based (calm st) h).session.chain) (based (calm st) h).work ≡ g
 
 -- with no PUT DATA open they hold nothing
-goes_put : (c : Chain) (h : Header) → h.ins ≡ 0xDB → h.p1 ≡ 0x3F → h.p2 ≡ 0xFF → goes_on c h ≡ put_open c
+goes_put : (c : Option Chain) (h : Header) → h.ins ≡ 0xDB → h.p1 ≡ 0x3F → h.p2 ≡ 0xFF → goes_on c h ≡ put_open c
 unfolding goes_on
-goes_put Shut h a b c = refl
-goes_put (Open ins p1 p2 n) h a b c = rw (a, b, c)
+goes_put None h a b c = refl
+goes_put (Some o) h a b c = rw (a, b, c)
 
 pub has_none : (st : State) → put_open st.session.chain ≡ false → Has st []
 unfolding Has based calm dropped
@@ -152,17 +149,17 @@ module _ (st : State) (g : Well st) (f : List ℕ) (has : Has st f) (cla : ℕ) 
   unfolding Has based held_piece calm
   held_has h a b c =
       ap (λ (x : State). take (chain_length x.session.chain) x.work)
-      (on _ _ _ (goes_put (Open p.head.ins p.head.p1 p.head.p2 _) h a b c ∙ rw (p.ins, p.p1, p.p2)))
+      (on _ _ _ (goes_put (Some (chain_of p.head _)) h a b c ∙ rw (p.ins, p.p1, p.p2)))
       ∙ take-splice (from cla st k d p).work d (chain_length (from cla st k d p).session.chain) work_fits
       ∙ ap (λ (l : List ℕ). l ++ d) holds
 
   -- the last: the slot takes the value
   module _ (e : cla ≡ 0x00) (i : ℕ) (v : List ℕ) (hi : i < slots) (fm : Formed (f ++ d) i v) where
-    whole-slot : call st k ≡ delivered p.resp (put_slot (closed (from cla st k d p) d) (f ++ d) (Object i fm.from (length v)))
+    whole-slot : call st k ≡ delivered p.resp (put_slot (closed (from cla st k d p) d) (f ++ d) (Some (put_of i (place fm.from (length v)))))
     unfolding put_whole
     whole-slot = whole_is cla st k d p e ∙ ap (delivered p.resp) (ap (put_whole (closed (from cla st k d p) d)) gathers ∙ ap (put_slot (closed (from cla st k d p) d) (f ++ d)) fm.form)
 
-    slot-word : word_of (delivered p.resp (put_slot (closed (from cla st k d p) d) (f ++ d) (Object i fm.from (length v)))) ≡ 0x9000
+    slot-word : word_of (delivered p.resp (put_slot (closed (from cla st k d p) d) (f ++ d) (Some (put_of i (place fm.from (length v)))))) ≡ 0x9000
     slot-word = sym (ap word_of whole-slot) ∙ p.well
 
     pub last-wrote : (call st k).wrote ≡ in_slot i v

@@ -1,5 +1,6 @@
 -- The premises of the claims over runs can be met (specs/Claims/Instances): each claim applied to a run, its premises computed.
 -- Assumes nothing.
+use Rattle.std.specs.Prelude.{None, Some, Ok, Err}
 use mathlib.Core.Path.{◌≡◌, refl, ap, sym, ◌∙◌, subst}
 use mathlib.Core.Bool.{Bool, true, false, not, ◌||◌, true≢false}
 use mathlib.Core.List.{List, [], ◌∷◌, ◌++◌}
@@ -9,20 +10,14 @@ use lib.Dec.{ltb, eqb}
 use lib.ListN.{length, get_or, replicate, length-replicate}
 use borrow.Author.Tests.{eqb-true, le-leb, lt-ltb}
 use Rattle.rules.specs.declared.Header.{Header}
-use Rattle.rules.specs.declared.Checked.TheVariants.{Passed, Failed}
-use Rattle.rules.specs.declared.Chain.TheVariants.{Open}
-use Rattle.rules.specs.declared.Rest.TheVariants.{Gone}
-use Rattle.rules.specs.declared.Challenge.TheVariants.{Awaits}
-use Rattle.rules.specs.declared.Job.TheVariants.{Running}
-use Rattle.rules.specs.declared.Permit.{Permit}
-use Rattle.rules.specs.declared.Permit.TheVariants.{Granted, Denied}
+use Rattle.rules.specs.Fault.{Permit}
 use Rattle.rules.specs.declared.Refusal.TheVariants.{ShortResponse, WrongWork}
 use Rattle.rules.specs.Bytes.{iff, all, all_below, splice, zeros}
 use Rattle.rules.specs.Book.{book}
 use Rattle.rules.specs.Ber.{tlv}
 use Rattle.rules.specs.Objects.{object_tag}
 use Rattle.rules.specs.Store.{store_size, work_size, capacity, offset, slot_bytes, put_object, well_formed}
-use Rattle.rules.specs.Session.{State, state, cleared, holding, with_admin, with_challenge, with_job, job_open, readable}
+use Rattle.rules.specs.Session.{State, state, cleared, holding, with_admin, with_challenge, with_job, job_open, readable, job_of}
 use Rattle.rules.specs.Command.{field_of, check, Wrote, nothing, in_slot}
 use Rattle.rules.specs.Keys.{result_fits, finished}
 use Rattle.rules.specs.Calls.{command, Call, powers, sends, ill_session, short_response, interrupts, unasked, wrong_result, permit, Result, delivered, powered_on, granted, kept_session, denied, decided, call}
@@ -156,7 +151,7 @@ unfoldable on : List ℕ → State
 on s = state s (zeros work_size) (cleared false)
 
 module _ (s : List ℕ) (w : well_formed s ≡ true) where
-  granted_on : permit (before s) (powers false) ≡ Granted
+  granted_on : permit (before s) (powers false) ≡ Ok tt
   unfolding before
   granted_on = power_granted (state s (replicate work_size 0xAA) (cleared true)) false w (length-replicate {A = ℕ} work_size 0xAA)
 
@@ -223,10 +218,10 @@ working_card =
 -- ---- the administrator's login
 
 asked : State
-asked = state fixed (zeros work_size) (with_job (cleared false) (Running 0x9B 0x00 256))
+asked = state fixed (zeros work_size) (with_job (cleared false) (Some (job_of 0x9B 0x00 256)))
 
 challenged : State
-challenged = state fixed (zeros work_size) (with_challenge (cleared false) (Awaits 0x1112131415161718))
+challenged = state fixed (zeros work_size) (with_challenge (cleared false) (Some 0x1112131415161718))
 
 asks_leads : Leads (on fixed) asks asked
 asks_leads = tell_leads (on fixed) (power_leads fixed fixed-well).well 10 0x0087009B04_7C028100_00 asked refl (unfold on in refl) (unfold book on asked in refl)
@@ -249,13 +244,13 @@ issued_is =
 abbrev head_of : ℕ → ℕ → Header
 head_of cla lc = record { cla = cla; ins = 0xDB; p1 = 0x3F; p2 = 0xFF; lc = lc; le = 256 }
 
-tell-granted : (st : State) → Well st → job_open st.session ≡ false → (n x : ℕ) → permit st (tell n x) ≡ Granted
+tell-granted : (st : State) → Well st → job_open st.session ≡ false → (n x : ℕ) → permit st (tell n x) ≡ Ok tt
 unfolding ill_session short_response interrupts unasked wrong_result
 tell-granted st g j n x = lets_granted st (tell n x) (record { store = g.wf; session = ap not g.session; response = refl; work = g.size; free = j; asked = refl; result = refl })
 
 -- the first piece is held
 amid : State
-amid = state fixed (splice (zeros work_size) 0 (hex 6 0x5C035FC10753)) (holding (with_admin (cleared false) true) (Open 0xDB 0x3F 0xFF 6) Gone)
+amid = state fixed (splice (zeros work_size) 0 (hex 6 0x5C035FC10753)) (holding (with_admin (cleared false) true) (Some (record { ins = 0xDB; p1 = 0x3F; p2 = 0xFF; len = 6 })) None)
 
 first_leads : Leads issuing first amid
 first_leads = tell_leads issuing reply_leads.well 11 0x10DB3FFF06_5C035FC10753 amid refl (unfold issuing in refl) (unfold book issuing amid in refl)
@@ -269,7 +264,7 @@ last_leads = tell_leads amid first_leads.well 8 0x00DB3FFF03_020809 after refl (
 
 -- a piece that is granted, passes and is answered 9000
 puts : (cla lc n x : ℕ) (st : State) (d : List ℕ) → Well st → job_open st.session ≡ false
-    → check st.session.contactless (hex n x) ≡ Passed (head_of cla lc) → field_of (hex n x) (head_of cla lc) ≡ d
+    → check st.session.contactless (hex n x) ≡ Ok (head_of cla lc) → field_of (hex n x) (head_of cla lc) ≡ d
     → word_of (delivered (replicate 258 0xBB) (command st (hex n x))) ≡ 0x9000 → Puts cla st (tell n x) d
 puts cla lc n x st d g j c f w = record {
   resp = replicate 258 0xBB;
@@ -295,7 +290,7 @@ unfolding book amid word_of
 last_puts = puts 0x00 3 8 0x00DB3FFF03_020809 amid (hex 3 0x020809) first_leads.well refl refl refl refl
 
 -- between them a call that is lent no response buffer
-short_refused : permit amid (sends [] []) ≡ Denied ShortResponse
+short_refused : permit amid (sends [] []) ≡ Err ShortResponse
 unfolding permit ill_session short_response
 short_refused =
     off _ _ _ (ap not first_leads.well.wf) ∙ off _ _ _ (ap not first_leads.well.session) ∙ on-true _ _ _ refl
@@ -366,20 +361,20 @@ stored-object =
     let r = object_answers.full (omega arith) readable_now two (rest ∷ []) (record { room = omega arith; le = omega arith }) (record { room = omega arith; le = tt }, tt) ends in
     (r.0 ∙ tlv_is, r.1)
 
-wrong-work : permit (state fixed (zeros 5) (cleared false)) (powers true) ≡ Denied WrongWork
+wrong-work : permit (state fixed (zeros 5) (cleared false)) (powers true) ≡ Err WrongWork
 unfolding permit ill_session short_response zeros
 wrong-work = off _ _ _ (ap not fixed-well) ∙ off _ _ _ refl ∙ off _ _ _ refl ∙ on-true _ _ _ refl
 
 -- a command of three bytes, and a VERIFY
 
-short_command : check true (hex 3 0x00A404) ≡ Failed 0x6700
+short_command : check true (hex 3 0x00A404) ≡ Err 0x6700
 unfolding book
 short_command = refl
 
 verify-head : Header
 verify-head = record { cla = 0x00; ins = 0x20; p1 = 0x00; p2 = 0x80; lc = 8; le = 256 }
 
-a_verify : check false (hex 13 0x0020008008_313233343537FFFF) ≡ Passed verify-head
+a_verify : check false (hex 13 0x0020008008_313233343537FFFF) ≡ Ok verify-head
 unfolding book verify-head
 a_verify = refl
 

@@ -7,6 +7,7 @@
 --   invariants             the claim
 --
 -- Assumes nothing.
+use Rattle.std.specs.Prelude.{Ok, Err}
 use mathlib.Core.Path.{◌≡◌, refl, ap, sym, ◌∙◌, subst}
 use mathlib.Core.Bool.{Bool, true, false, not, true≢false, false≢true}
 use mathlib.Core.List.{List, [], ◌∷◌, ◌++◌}
@@ -16,8 +17,7 @@ use lib.ListN.{length, take, get_or, length-append, get_or-replicate, get_or-app
 use lib.Seq.{length-take-le, ext_get_or, get_or-append-add, get_or-take}
 use borrow.Author.Tests.{eq-eqb, not-false}
 use Rattle.rules.specs.declared.Refusal.{Refusal}
-use Rattle.rules.specs.declared.Permit.{Permit}
-use Rattle.rules.specs.declared.Permit.TheVariants.{Granted, Denied}
+use Rattle.rules.specs.Fault.{Permit}
 use Rattle.rules.specs.declared.Session.{Session}
 use Rattle.rules.specs.Bytes.{zeros}
 use Rattle.rules.specs.Store.{work_size, well_formed}
@@ -38,8 +38,8 @@ use Rattle.rules.proofs.Kept.{Zero, Well, Moved, well_fine, command-kept, finish
 
 -- a refusal in a state that is well is none of 1, 2 and 4
 abbrev Pardons : Permit → Type 0
-Pardons Granted = Unit {0}
-Pardons (Denied r) = Pardoned r
+Pardons (Ok u) = Unit {0}
+Pardons (Err r) = Pardoned r
 
 session_fits : (st : State) → Well st → (k : Call) → ill_session k st.session ≡ false
 unfolding ill_session
@@ -98,27 +98,27 @@ granted-kept st g (finishes resp failed r) p l =
     record { well = k.well; moved = k.moved }
 
 abbrev Yes : Permit → Type 0
-Yes Granted = Unit {0}
-Yes (Denied r) = ⊥
+Yes (Ok u) = Unit {0}
+Yes (Err r) = ⊥
 
-denied-leaves : (st : State) → Well st → (k : Call) (r : Refusal) → permit st k ≡ Denied r → leaves (denied st k r) ≡ st
+denied-leaves : (st : State) → Well st → (k : Call) (r : Refusal) → permit st k ≡ Err r → leaves (denied st k r) ≡ st
 unfolding denied leaves kept_session
 denied-leaves st g (powers air) r e = absurd (subst Yes (sym (power_granted st air g.wf g.size) ∙ e) tt)
 denied-leaves st g (sends resp c) r e = refl
 denied-leaves st g (finishes resp failed x) r e = refl
 
 -- a refused call leaves the state as it was
-pub refused-leaves : (st : State) → Well st → (k : Call) (r : Refusal) → permit st k ≡ Denied r → leaves (call st k) ≡ st
+pub refused-leaves : (st : State) → Well st → (k : Call) (r : Refusal) → permit st k ≡ Err r → leaves (call st k) ≡ st
 refused-leaves st g k r e = ap leaves (call-denied st k r e) ∙ denied-leaves st g k r e
 
-denied-kept : (st : State) → Well st → (k : Call) (r : Refusal) → permit st k ≡ Denied r → After st.store (denied st k r)
+denied-kept : (st : State) → Well st → (k : Call) (r : Refusal) → permit st k ≡ Err r → After st.store (denied st k r)
 unfolding denied
 denied-kept st g k r e = record { well = subst Well (sym (denied-leaves st g k r e)) g; moved = λ j h. refl }
 
 decided-kept : (st : State) → Well st → (k : Call) → Plain k → (p : Permit) → permit st k ≡ p → After st.store (decided st k p)
 unfolding decided
-decided-kept st g k b Granted e = granted-kept st g k b (granted_lets st k e)
-decided-kept st g k b (Denied r) e = denied-kept st g k r e
+decided-kept st g k b (Ok u) e = granted-kept st g k b (granted_lets st k e)
+decided-kept st g k b (Err r) e = denied-kept st g k r e
 
 pub call_kept : (st : State) → Well st → (k : Call) → Plain k → After st.store (call st k)
 unfolding call
@@ -131,13 +131,13 @@ unfolding end_of
 run-well [] st g b = g
 run-well (k ∷ ks) st g b = run-well ks (leaves (call st k)) (call_kept st g k b.0).well b.1
 
-pub power_well : (s w : List ℕ) (ss : Session) (air : Bool) → permit (state s w ss) (powers air) ≡ Granted → Well (leaves (call (state s w ss) (powers air)))
+pub power_well : (s w : List ℕ) (ss : Session) (air : Bool) → permit (state s w ss) (powers air) ≡ Ok tt → Well (leaves (call (state s w ss) (powers air)))
 unfolding call
 power_well s w ss air e =
     subst (λ (p : Permit). Well (leaves (decided (state s w ss) (powers air) p))) (sym e)
     (unfold decided granted in (powered-well (state s w ss) air (granted_lets (state s w ss) (powers air) e).store).well)
 
-pub start-well : (s w : List ℕ) (ss : Session) (air : Bool) → permit (state s w ss) (powers air) ≡ Granted
+pub start-well : (s w : List ℕ) (ss : Session) (air : Bool) → permit (state s w ss) (powers air) ≡ Ok tt
     → (ks : List Call) → Each Plain ks → Well (end_of (state s w ss) (powers air ∷ ks))
 unfolding end_of
 start-well s w ss air e ks b = run-well ks _ (power_well s w ss air e) b

@@ -9,6 +9,7 @@
 --   finished-kept          the result of a job
 --
 -- Assumes nothing.
+use Rattle.std.specs.Prelude.{Option, None, Some, Ok, Err}
 use mathlib.Core.Path.{◌≡◌, refl, ap, sym, ◌∙◌, subst}
 use mathlib.Core.Logic.{inr}
 use mathlib.Core.Bool.{Bool, true, false, not, ◌&&◌, ◌||◌, true≢false, false≢true}
@@ -19,33 +20,23 @@ use lib.Dec.{ltb, leb, eqb}
 use lib.ListN.{length, take, get_or, length-append, length-take, get_or-replicate}
 use borrow.Author.Tests.{eqb-true, eqb-false, ltb-true, ltb-false, leb-true, leb-false, le-leb, lt-ltb, not-true, not-false}
 use Rattle.rules.specs.declared.Chain.{Chain}
-use Rattle.rules.specs.declared.Chain.TheVariants.{Shut, Open}
 use Rattle.rules.specs.declared.Rest.{Rest}
-use Rattle.rules.specs.declared.Rest.TheVariants.{Gone, Left}
-use Rattle.rules.specs.declared.Challenge.{Challenge}
-use Rattle.rules.specs.declared.Challenge.TheVariants.{Unasked, Awaits}
 use Rattle.rules.specs.declared.Job.{Job}
-use Rattle.rules.specs.declared.Job.TheVariants.{Idle, Running}
-use Rattle.rules.specs.declared.Found.{Found}
-use Rattle.rules.specs.declared.Found.TheVariants.{Value, Missing}
-use Rattle.rules.specs.declared.Asked.{Asked}
-use Rattle.rules.specs.declared.Asked.TheVariants.{Slot, NoTag}
-use Rattle.rules.specs.declared.Put.{Put}
-use Rattle.rules.specs.declared.Put.TheVariants.{Object, NoObject}
+use Rattle.rules.specs.declared.Place.{Place}
+use Rattle.rules.specs.Objects.{Put}
 use Rattle.rules.specs.declared.Admin.{Admin}
-use Rattle.rules.specs.declared.Admin.TheVariants.{GiveChallenge, Reply, NoForm}
+use Rattle.rules.specs.declared.Admin.TheVariants.{GiveChallenge, Reply}
 use Rattle.rules.specs.declared.Header.{Header}
-use Rattle.rules.specs.declared.Checked.{Checked}
-use Rattle.rules.specs.declared.Checked.TheVariants.{Passed, Failed}
+use Rattle.rules.specs.Command.{Checked}
 use Rattle.rules.specs.declared.Session.{Session}
 use Rattle.rules.specs.Bytes.{iff, all, part, splice, zeros, zeroed, word}
 use Rattle.rules.specs.Book.{book}
 use Rattle.rules.specs.Ber.{ber_length, length_form, tlv}
 use Rattle.rules.specs.Reference.{reference_at}
 use Rattle.rules.specs.Store.{work_size, slots, capacity, object_of, takes, put_object, pin_at, key_place, algorithm_of, algorithm_ok, well_formed}
-use Rattle.rules.specs.Session.{State, in_session, with_admin, chain_length, whole_length, held_length, chain_open, rest_held, challenge_held, running, job_open, auth_total, chain_ok, rest_ok, user_key, user_algorithm, key_job_ok, job_ok, possible}
+use Rattle.rules.specs.Session.{State, in_session, with_admin, chain_length, whole_length, held_length, chain_open, rest_held, challenge_held, running, job_open, auth_total, chain_ok, rest_ok, user_key, user_algorithm, key_job_ok, job_ok, possible, rest_of}
 use Rattle.rules.specs.Command.{le_of, header, field_of, parse_long, parse, known, contact_only, admit, admitted, check, Wrote, nothing, in_slot, Made, says}
-use Rattle.rules.specs.Held.{calm, dropped, send, fetch, goes_on, based, gathered, held_piece, closed_work, closed, piece}
+use Rattle.rules.specs.Held.{calm, dropped, send, fetch, goes_on, based, gathered, held_piece, closed_work, closed, piece, chain_of}
 use Rattle.rules.specs.Pin.{Refs, after, Said, refs_in, refs_onto, refs, put_refs, on_refs}
 use Rattle.rules.specs.Objects.{template, select, asked_in, object_tag, give_object, get_slot, get_asked, get_data, get_rest, get_response, put_form, stored, put_slot, put_whole, put_each, put_piece, put_data}
 use Rattle.rules.specs.Keys.{key_fits, auth_each, contents, replied, opened, auth_admin, auth_key, auth_in, auth_form, auth_whole, auth_piece, authenticate, result_ok, result_fits, challenged, answered, finished}
@@ -72,7 +63,7 @@ pub record Fine (st : State) : Type 0 where
   pub chain : chain_ok st.session.chain ≡ true
   pub rest : rest_ok st.session.rest ≡ true
   pub apart : not (chain_open st.session.chain && rest_held st.session.rest) ≡ true
-  pub idle : st.session.job ≡ Idle
+  pub idle : st.session.job ≡ None
   pub full : st.session.pin ≡ true → (reference_at st.store pin_at).left ≡ (reference_at st.store pin_at).limit
   pub contact : st.session.pin ≡ true → st.session.contactless ≡ false
   pub served : st.session.admin ≡ true → st.session.contactless ≡ false
@@ -94,9 +85,9 @@ pub record Kept (s : List ℕ) (x : Made) : Type 0 where
   pub well : Well x.after
   pub moved : Moved s x.after.store x.wrote
 
-idle_alone : (j : Job) (b : Bool) → j ≡ Idle → (not (running j && b) ≡ true) × (job_ok j ≡ true)
-idle_alone Idle b e = (refl, refl)
-idle_alone (Running key alg le) b e = absurd (true≢false (ap running e))
+idle_alone : (j : Option Job) (b : Bool) → j ≡ None → (not (running j && b) ≡ true) × (job_ok j ≡ true)
+idle_alone None b e = (refl, refl)
+idle_alone (Some j) b e = absurd (true≢false (ap running e))
 
 pub fine_well : (st : State) → Fine st → Well st
 fine_well st f =
@@ -111,9 +102,9 @@ fine_well st f =
       served = f.served;
     }
 
-not_open : (j : Job) → running j ≡ false → j ≡ Idle
-not_open Idle e = refl
-not_open (Running key alg le) e = absurd (true≢false e)
+not_open : (j : Option Job) → running j ≡ false → j ≡ None
+not_open None e = refl
+not_open (Some j) e = absurd (true≢false e)
 
 pub well_fine : (st : State) → Well st → job_open st.session ≡ false → Fine st
 well_fine st g e =
@@ -211,10 +202,10 @@ module _ (st : State) (f : Fine st) (none : held_length st.session ≡ 0) where
   unfolding select
   select_kept h d = either (Kept st.store) _ (says-kept st f _) (either (Kept st.store) _ (says-kept st f _) (send-kept st f none _ template template_short))
 
-  asked-kept : (le : ℕ) (a : Asked) → Kept st.store (get_asked st le a)
+  asked-kept : (le : ℕ) (a : Option ℕ) → Kept st.store (get_asked st le a)
   unfolding get_asked get_slot give_object
-  asked-kept le NoTag = says-kept st f _
-  asked-kept le (Slot i) =
+  asked-kept le None = says-kept st f _
+  asked-kept le (Some i) =
       branch (Kept st.store) _ (λ b. says-kept st f _)
       λ hi. either (Kept st.store) _ (says-kept st f _)
       (either (Kept st.store) _ (says-kept st f _) (send-kept st f none le _ (object_short st.store f.wf i (ltb-true i slots (not-false _ hi)))))
@@ -230,10 +221,10 @@ module _ (st : State) (f : Fine st) where
   unfolding dropped
   drop-kept sw = says-kept (dropped st) (fine_dropped st f) sw
 
-  fetch-kept : (le whole k : ℕ) → st.session.rest ≡ Left whole k → Kept st.store (fetch st le whole k)
+  fetch-kept : (le whole k : ℕ) → st.session.rest ≡ Some (rest_of whole k) → Kept st.store (fetch st le whole k)
   unfolding fetch
   fetch-kept le whole k e =
-      let ok : (leb whole work_size && ltb k whole) ≡ true = subst (λ (r : Rest). rest_ok r ≡ true) e f.rest in
+      let ok : (leb whole work_size && ltb k whole) ≡ true = subst (λ (r : Option Rest). rest_ok r ≡ true) e f.rest in
       let c : chain_length st.session.chain ≡ 0 = no_chain st.session.chain st.session.rest f.apart (ap rest_held e) in
       let n : whole_length st.session.rest ≡ whole = ap whole_length e in
       branch (Kept st.store) _ (λ b. unfold dropped in record { well = fine_well _ (fine_dropped st f); moved = λ j h. refl })
@@ -253,10 +244,10 @@ module _ (st : State) (f : Fine st) where
         moved = λ j h. refl;
       }
 
-  rest-kept : (le : ℕ) (r : Rest) → st.session.rest ≡ r → Kept st.store (get_rest st le r)
+  rest-kept : (le : ℕ) (r : Option Rest) → st.session.rest ≡ r → Kept st.store (get_rest st le r)
   unfolding get_rest
-  rest-kept le Gone e = drop-kept _
-  rest-kept le (Left whole k) e = fetch-kept le whole k e
+  rest-kept le None e = drop-kept _
+  rest-kept le (Some r) e = fetch-kept le r.whole r.fetched e
 
   response_kept : (h : Header) (d : List ℕ) → Kept st.store (get_response st h d)
   unfolding get_response
@@ -290,7 +281,7 @@ module _ (st : State) (f : Fine st) where
 -- ---- pieces
 
 module _ (st : State) (f : Fine st) (none : whole_length st.session.rest ≡ 0) (h : Header) (d : List ℕ) where
-  piece_fine : chain_ok (Open h.ins h.p1 h.p2 (chain_length st.session.chain + length d)) ≡ true → Fine (held_piece st h d)
+  piece_fine : chain_ok (Some (chain_of h (chain_length st.session.chain + length d))) ≡ true → Fine (held_piece st h d)
   unfolding held_piece
   piece_fine ok =
       let n : ℕ = chain_length st.session.chain in
@@ -309,15 +300,15 @@ module _ (st : State) (f : Fine st) (none : whole_length st.session.rest ≡ 0) 
         served = f.served;
       }
 
-  held_kept : chain_ok (Open h.ins h.p1 h.p2 (chain_length st.session.chain + length d)) ≡ true → Kept st.store (says (held_piece st h d) 0x9000)
+  held_kept : chain_ok (Some (chain_of h (chain_length st.session.chain + length d))) ≡ true → Kept st.store (says (held_piece st h d) 0x9000)
   unfolding held_piece
   held_kept ok = record { well = fine_well _ (piece_fine ok); moved = λ j a. refl }
 
-  closed-zero : (c : Chain) → Zero st.work (chain_length c) → chain_length c + length d ≤ length st.work
+  closed-zero : (c : Option Chain) → Zero st.work (chain_length c) → chain_length c + length d ≤ length st.work
       → (length (closed_work st.work c (length d)) ≡ length st.work) × Zero (closed_work st.work c (length d)) 0
   unfolding closed_work
-  closed-zero Shut z l = (refl, z)
-  closed-zero (Open ins p1 p2 n) z l = (length-zeroed st.work (n + length d) l, zeroed-zero st.work (n + length d) 0 l (omega arith) (λ j a. z j (omega arith)))
+  closed-zero None z l = (refl, z)
+  closed-zero (Some c) z l = (length-zeroed st.work (c.len + length d) l, zeroed-zero st.work (c.len + length d) 0 l (omega arith) (λ j a. z j (omega arith)))
 
   closed_fine : chain_length st.session.chain + length d ≤ work_size → Fine (closed st d)
   unfolding closed
@@ -337,7 +328,7 @@ module _ (st : State) (f : Fine st) (none : whole_length st.session.rest ≡ 0) 
       }
 
   piece-kept : (sw : ℕ) (whole : State → List ℕ → Made)
-      → (sw ≡ 0x9000 → chain_ok (Open h.ins h.p1 h.p2 (chain_length st.session.chain + length d)) ≡ true)
+      → (sw ≡ 0x9000 → chain_ok (Some (chain_of h (chain_length st.session.chain + length d))) ≡ true)
       → (sw ≡ 0x9000 → Fine (closed st d) → Kept st.store (whole (closed st d) (gathered st d)))
       → Kept st.store (piece st h d sw whole)
   unfolding piece
@@ -355,10 +346,10 @@ pub record Starts (s : List ℕ) (ss : Session) (st : State) : Type 0 where
   pub store : st.store ≡ s
   pub calm : challenge_held st.session.challenge ≡ challenge_held ss.challenge
 
-pub goes_open : (c : Chain) (h : Header) → goes_on c h ≡ true → chain_open c ≡ true
+pub goes_open : (c : Option Chain) (h : Header) → goes_on c h ≡ true → chain_open c ≡ true
 unfolding goes_on
-goes_open Shut h e = e
-goes_open (Open ins p1 p2 n) h e = refl
+goes_open None h e = e
+goes_open (Some o) h e = refl
 
 pub based-starts : (st : State) → Fine st → (h : Header) → Starts st.store st.session (based st h)
 unfolding based
@@ -399,13 +390,13 @@ pub takes_fits : (s : List ℕ) (i n from : ℕ) (d : List ℕ) → takes s i n 
 unfolding takes
 takes_fits s i n from d e = omega (arith, leb-true n (capacity i) e, part_short d from n)
 
-slot_kept : (st : State) → Fine st → (d : List ℕ) (p : Put) → Kept st.store (put_slot st d p)
+slot_kept : (st : State) → Fine st → (d : List ℕ) (p : Option Put) → Kept st.store (put_slot st d p)
 unfolding put_slot
-slot_kept st f d NoObject = says-kept st f _
-slot_kept st f d (Object i from n) =
+slot_kept st f d None = says-kept st f _
+slot_kept st f d (Some p) =
     branch (Kept st.store) _ (λ b. says-kept st f _)
     λ a. branch (Kept st.store) _ (λ b. says-kept st f _)
-    λ b. stored-kept st f i (part d from n) (ltb-true i slots (not-false _ a)) (takes_fits st.store i n from d (not-false _ b))
+    λ b. stored-kept st f p.slot (part d p.value.from p.value.len) (ltb-true p.slot slots (not-false _ a)) (takes_fits st.store p.slot p.value.len p.value.from d (not-false _ b))
 
 -- 9000 only within the total
 pub put_total_lem : (st : State) (h : Header) (n : ℕ) → put_each st h n ≡ 0x9000 → n ≤ work_size
@@ -415,7 +406,7 @@ put_total_lem st h n =
     (either (λ (x : ℕ). x ≡ 0x9000 → n ≤ work_size) _ (λ e. absurd (omega (arith, e)))
     (branch (λ (x : ℕ). x ≡ 0x9000 → n ≤ work_size) _ (λ b e. absurd (omega (arith, e))) (λ b e. ltb-false work_size n b)))
 
-put_chain : (h : Header) (n : ℕ) → h.ins ≡ 0xDB → n ≤ work_size → chain_ok (Open h.ins h.p1 h.p2 n) ≡ true
+put_chain : (h : Header) (n : ℕ) → h.ins ≡ 0xDB → n ≤ work_size → chain_ok (Some (chain_of h n)) ≡ true
 unfolding iff
 put_chain h n e l = rw e (and_both (leb n work_size) true (le-leb _ _ l) refl)
 
@@ -543,36 +534,36 @@ module _ (st : State) (k : Bare st) where
     moved = λ j a. refl;
   }
 
-  replied-kept : st.session.contactless ≡ false → (ch : Challenge) (r : ℕ) → Kept st.store (replied st ch r)
+  replied-kept : st.session.contactless ≡ false → (ch : Option ℕ) (r : ℕ) → Kept st.store (replied st ch r)
   unfolding replied
-  replied-kept near Unasked r = says-kept st f _
-  replied-kept near (Awaits reply) r = either (Kept st.store) _ (admin_fine true (λ e. near) _) (admin_fine false (λ e. absurd (false≢true e)) _)
+  replied-kept near None r = says-kept st f _
+  replied-kept near (Some reply) r = either (Kept st.store) _ (admin_fine true (λ e. near) _) (admin_fine false (λ e. absurd (false≢true e)) _)
 
-  admin_kept : st.session.contactless ≡ false → (ch : Challenge) (le : ℕ) (t : List ℕ) (a : Admin) → 1 ≤ le → le ≤ 256 → Kept st.store (auth_admin ch st le t a)
+  admin_kept : st.session.contactless ≡ false → (ch : Option ℕ) (le : ℕ) (t : List ℕ) (a : Option Admin) → 1 ≤ le → le ≤ 256 → Kept st.store (auth_admin ch st le t a)
   unfolding auth_admin key_job_ok iff
-  admin_kept near ch le t GiveChallenge low high = opened-kept 0x9B 0x00 le [] refl low high
-  admin_kept near ch le t (Reply from) low high = replied-kept near ch _
-  admin_kept near ch le t NoForm low high = says-kept st f _
+  admin_kept near ch le t (Some GiveChallenge) low high = opened-kept 0x9B 0x00 le [] refl low high
+  admin_kept near ch le t (Some (Reply from)) low high = replied-kept near ch _
+  admin_kept near ch le t None low high = says-kept st f _
 
-  key_kept : (h : Header) (t : List ℕ) (x : Found) → Fits h → key_job_ok h.p2 h.p1 ≡ true → Kept st.store (auth_key st h t x)
+  key_kept : (h : Header) (t : List ℕ) (x : Option Place) → Fits h → key_job_ok h.p2 h.p1 ≡ true → Kept st.store (auth_key st h t x)
   unfolding auth_key
-  key_kept h t Missing l ok = says-kept st f _
-  key_kept h t (Value from n) l ok = opened-kept _ _ _ _ ok l.some l.most
+  key_kept h t None l ok = says-kept st f _
+  key_kept h t (Some v) l ok = opened-kept _ _ _ _ ok l.some l.most
 
-  form_kept : (ch : Challenge) (h : Header) (n : ℕ) (d : List ℕ) (x : Found) → Fits h → Passes st h n → Kept st.store (auth_form ch h st d x)
+  form_kept : (ch : Option ℕ) (h : Header) (n : ℕ) (d : List ℕ) (x : Option Place) → Fits h → Passes st h n → Kept st.store (auth_form ch h st d x)
   unfolding auth_form auth_in
-  form_kept ch h n d Missing l p = says-kept st f _
-  form_kept ch h n d (Value from m) l p =
+  form_kept ch h n d None l p = says-kept st f _
+  form_kept ch h n d (Some v) l p =
       branch (Kept st.store) _
       (λ b. let q : (st.session.contactless && not (eqb 0x9B 0x9E)) ≡ false = subst (λ (x : ℕ). (st.session.contactless && not (eqb x 0x9E)) ≡ false) (eqb-true h.p2 0x9B b) p.near in
       admin_kept (sym (and_end st.session.contactless) ∙ q) ch h.le _ _ l.some l.most)
       (λ b. key_kept h _ _ l (key_job st f h n p b))
 
-auth_chain : (h : Header) (n : ℕ) → h.ins ≡ 0x87 → n ≤ auth_total → chain_ok (Open h.ins h.p1 h.p2 n) ≡ true
+auth_chain : (h : Header) (n : ℕ) → h.ins ≡ 0x87 → n ≤ auth_total → chain_ok (Some (chain_of h n)) ≡ true
 unfolding iff
 auth_chain h n e l = rw e (and_both (leb n work_size) (leb n auth_total) (le-leb n work_size (omega arith)) (le-leb _ _ l))
 
-module _ (ch : Challenge) (h : Header) (l : Fits h) (d : List ℕ) where
+module _ (ch : Option ℕ) (h : Header) (l : Fits h) (d : List ℕ) where
   whole-kept : (st : State) (n : ℕ) → Passes st h n → challenge_held st.session.challenge ≡ false → Fine (closed st d) → Kept st.store (auth_whole ch h (closed st d) (gathered st d))
   unfolding auth_whole closed
   whole-kept st n p still c =
@@ -598,12 +589,12 @@ pub record Checks (air : Bool) (h : Header) : Type 0 where
   pub fits : Fits h
 
 abbrev pub Right : Bool → Checked → Type 0
-Right air (Failed sw) = Unit {0}
-Right air (Passed h) = Checks air h
+Right air (Err sw) = Unit {0}
+Right air (Ok h) = Checks air h
 
 abbrev Long : Checked → Type 0
-Long (Failed sw) = Unit {0}
-Long (Passed h) = Fits h
+Long (Err sw) = Unit {0}
+Long (Ok h) = Fits h
 
 le_fits : (b : ℕ) → b < 256 → (1 ≤ le_of b) × (le_of b ≤ 256)
 unfolding le_of
@@ -626,8 +617,8 @@ parse-long c by =
 
 admit-right : (air : Bool) (x : Checked) → Long x → Right air (admitted air x)
 unfolding admitted admit
-admit-right air (Failed sw) f = tt
-admit-right air (Passed h) f =
+admit-right air (Err sw) f = tt
+admit-right air (Ok h) f =
     either (Right air) _ tt
     (either (Right air) _ tt
     (branch (Right air) _ (λ b. tt)
@@ -659,7 +650,7 @@ module _ (st : State) (f : Fine st) (h : Header) (d : List ℕ) where
   unfolding dropped refs
   rule-kept near x k = refs-kept (dropped st) (fine_dropped st f) near x k
 
-  ruled-kept : challenge_held st.session.challenge ≡ false → (ch : Challenge) → Checks st.session.contactless h → Kept st.store (ruled st ch h d)
+  ruled-kept : challenge_held st.session.challenge ≡ false → (ch : Option ℕ) → Checks st.session.contactless h → Kept st.store (ruled st ch h d)
   unfolding ruled dropped
   ruled-kept still ch c =
       let g : Fine (dropped st) = fine_dropped st f in
@@ -673,11 +664,11 @@ module _ (st : State) (f : Fine st) (h : Header) (d : List ℕ) where
       λ b6. branch (Kept st.store) _ (λ b. auth_kept ch h c.fits d st f still (eqb-true h.ins 0x87 b))
       λ b7. put-kept st f h (last-known h.ins c.listed b1 b2 b3 b4 b5 b6 b7) d
 
-obeyed-kept : (st : State) → Fine st → challenge_held st.session.challenge ≡ false → (ch : Challenge) (c : List ℕ) (x : Checked)
+obeyed-kept : (st : State) → Fine st → challenge_held st.session.challenge ≡ false → (ch : Option ℕ) (c : List ℕ) (x : Checked)
     → Right st.session.contactless x → Kept st.store (obeyed st ch c x)
 unfolding obeyed
-obeyed-kept st f still ch c (Failed sw) r = drop-kept st f _
-obeyed-kept st f still ch c (Passed h) r = ruled-kept st f h (field_of c h) still ch r
+obeyed-kept st f still ch c (Err sw) r = drop-kept st f _
+obeyed-kept st f still ch c (Ok h) r = ruled-kept st f h (field_of c h) still ch r
 
 pub fine_calm : (st : State) → Fine st → Fine (calm st)
 unfolding calm
@@ -736,10 +727,10 @@ module _ (st : State) (f : Fine st) (none : held_length st.session ≡ 0) where
       λ b. either (Kept st.store) _ (challenged-kept le r)
       (send-kept st f none le (tlv 0x7C (tlv 0x82 r)) (omega (arith, tlv_short 0x7C (tlv 0x82 r), tlv_short 0x82 r, result_short key alg r (fit b))))
 
-finished_by : (st : State) → Well st → (j : Job) → st.session.job ≡ j → (failed : Bool) (r : List ℕ) → (failed ≡ false → result_fits j r ≡ true) → Kept st.store (finished st j failed r)
+finished_by : (st : State) → Well st → (j : Option Job) → st.session.job ≡ j → (failed : Bool) (r : List ℕ) → (failed ≡ false → result_fits j r ≡ true) → Kept st.store (finished st j failed r)
 unfolding finished result_fits
-finished_by st g Idle e failed r fit = says-kept st (well_fine st g (ap running e)) _
-finished_by st g (Running key alg le) e failed r fit =
+finished_by st g None e failed r fit = says-kept st (well_fine st g (ap running e)) _
+finished_by st g (Some j) e failed r fit =
     let t : Tests st.session = possible_tests st.session g.session in
     answered-kept _
     (record {
@@ -755,7 +746,7 @@ finished_by st g (Running key alg le) e failed r fit =
       served = g.served;
     })
     (none_open st.session.chain st.session.rest (challenge_held st.session.challenge) (rw (ap running e) at t.alone))
-    key alg le failed r fit
+    j.key j.alg j.le failed r fit
 
 pub finished-kept : (st : State) → Well st → (failed : Bool) (r : List ℕ) → (failed ≡ false → result_fits st.session.job r ≡ true)
     → Kept st.store (finished st st.session.job failed r)

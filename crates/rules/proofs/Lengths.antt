@@ -8,6 +8,7 @@
 --   lengths            the claim
 --
 -- Assumes nothing.
+use Rattle.std.specs.Prelude.{Option, None, Some}
 use mathlib.Core.Path.{◌≡◌, refl, ap, sym, ◌∙◌, subst}
 use mathlib.Core.Bool.{Bool, true, false, ◌||◌}
 use mathlib.Core.List.{List, ◌∷◌, ◌++◌}
@@ -19,9 +20,8 @@ use lib.ListN.{length, get_or, length-append}
 use lib.Seq.{get_or-append_seam, get_or-append-add}
 use borrow.Author.Tests.{lt-ltb, le-ltb, le-leb, lt-leb, eq-eqb, ne_eqb, eqb-true, eqb-false, ltb-false}
 use Rattle.rules.specs.declared.Length.{Length}
-use Rattle.rules.specs.declared.Length.TheVariants.{Is, Bad}
 use Rattle.rules.specs.Bytes.{iff, part, word, be16}
-use Rattle.rules.specs.Ber.{length_bytes, length_form, ber_length, announced, length_value, length_in, length_at}
+use Rattle.rules.specs.Ber.{length_bytes, length_form, ber_length, announced, length_value, length_in, length_at, with_next}
 use Rattle.rules.specs.Claims.Lengths.{room, Bytes, Holds}
 use Rattle.rules.proofs.Tests.{on, off, or-none}
 use Rattle.rules.proofs.Lists.{part_none, part_cons}
@@ -50,13 +50,13 @@ form_length (suc (suc (suc (suc k)))) n h1 h3 = absurd (omega arith)
 -- ---- reading
 
 pub read_by : (s : List ℕ) (at k n : ℕ) → 1 ≤ k → announced (get_or s at 0) ≡ k → at + k ≤ length s
-    → length_value s at k ≡ n → length_bytes n ≡ k → length_at s at ≡ Is n (at + k)
+    → length_value s at k ≡ n → length_bytes n ≡ k → length_at s at ≡ Some (with_next n (at + k))
 unfolding length_at length_in
 read_by s at k n h1 ea l ev ec =
     rw ea
     (off _ _ _ (or-none _ _ (ne_eqb k 0 (omega arith)) (le-ltb (length s) (at + k) l))
     ∙ on _ _ _ (eq-eqb _ k (ap length_bytes ev ∙ ec))
-    ∙ ap (λ (m : ℕ). Is m (at + k)) ev)
+    ∙ ap (λ (m : ℕ). Some (with_next m (at + k))) ev)
 
 pub record Read (s : List ℕ) (at n next k : ℕ) : Type 0 where
   pub some : k ≡ 0 → ⊥
@@ -65,24 +65,24 @@ pub record Read (s : List ℕ) (at n next k : ℕ) : Type 0 where
   pub short : length_bytes n ≡ k
   pub ends : next ≡ at + k
 
-is_len : Length → ℕ
-is_len (Is n next) = n
-is_len Bad = 0
+is_len : Option Length → ℕ
+is_len (Some l) = l.len
+is_len None = 0
 
-is_next : Length → ℕ
-is_next (Is n next) = next
-is_next Bad = 0
+is_next : Option Length → ℕ
+is_next (Some l) = l.next
+is_next None = 0
 
-not-bad : Length → Type 0
-not-bad (Is n next) = Unit {0}
-not-bad Bad = ⊥
+not-bad : Option Length → Type 0
+not-bad (Some l) = Unit {0}
+not-bad None = ⊥
 
-read_in : (s : List ℕ) (at n next k : ℕ) → length_in s at k ≡ Is n next → Read s at n next k
+read_in : (s : List ℕ) (at n next k : ℕ) → length_in s at k ≡ Some (with_next n next) → Read s at n next k
 unfolding length_in iff is_len is_next not-bad
 read_in s at n next k = go (eqb k 0) (ltb (length s) (at + k)) (eqb (length_bytes (length_value s at k)) k) refl refl refl
   where
     go : (b c d : Bool) → eqb k 0 ≡ b → ltb (length s) (at + k) ≡ c → eqb (length_bytes (length_value s at k)) k ≡ d
-        → iff (b || c) Bad (iff d (Is (length_value s at k) (at + k)) Bad) ≡ Is n next → Read s at n next k
+        → iff (b || c) None (iff d (Some (with_next (length_value s at k) (at + k))) None) ≡ Some (with_next n next) → Read s at n next k
     go true c d p q r e = absurd (subst not-bad (sym e) tt)
     go false true d p q r e = absurd (subst not-bad (sym e) tt)
     go false false false p q r e = absurd (subst not-bad (sym e) tt)
@@ -94,7 +94,7 @@ read_in s at n next k = go (eqb k 0) (ltb (length s) (at + k)) (eqb (length_byte
       ends = sym (ap is_next e);
     }
 
-pub read_is : (s : List ℕ) (at n next : ℕ) → length_at s at ≡ Is n next → Read s at n next (announced (get_or s at 0))
+pub read_is : (s : List ℕ) (at n next : ℕ) → length_at s at ≡ Some (with_next n next) → Read s at n next (announced (get_or s at 0))
 unfolding length_at
 read_is s at n next e = read_in s at n next _ e
 
@@ -124,7 +124,7 @@ module _ (b a : List ℕ) (n : ℕ) where
   tells (suc (suc (suc (suc k)))) h1 h3 hi = absurd (omega arith)
 
   pub form_read : (k : ℕ) → 1 ≤ k → k ≤ 3 → n < room k → length_bytes n ≡ k
-      → length_at (b ++ (length_form k n ++ a)) (length b) ≡ Is n (length b + k)
+      → length_at (b ++ (length_form k n ++ a)) (length b) ≡ Some (with_next n (length b + k))
   unfolding written
   form_read k h1 h3 hi ec =
       read_by (written k) (length b) k n h1 (announces k h1 h3 hi)
@@ -161,7 +161,7 @@ module _ (s : List ℕ) (at n : ℕ) where
       part_cons s at 2 (omega arith)
       ∙ rw (part_cons s (at + 1) 1 (omega arith), part_cons s (at + 1 + 1) 0 (omega arith), part_none, h, hi, lo)
 
-shortest : (s : List ℕ) (at n next : ℕ) → Bytes s → length_at s at ≡ Is n next → part s at (length_bytes n) ≡ ber_length n
+shortest : (s : List ℕ) (at n next : ℕ) → Bytes s → length_at s at ≡ Some (with_next n next) → part s at (length_bytes n) ≡ ber_length n
 unfolding ber_length
 shortest s at n next hs e =
     let r : Read s at n next (announced (get_or s at 0)) = read_is s at n next e in

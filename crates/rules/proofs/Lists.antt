@@ -12,6 +12,7 @@
 --   splice_apart               two stretches apart from each other, in either order
 --   splice-within              a stretch whose ends stay as they were
 --   splice-next join-start     two stretches put one behind the other, and from the start
+--   buffers                    these together, for a tactic: lengths, and two stretches as one
 --   part-start                 the start of a row whose start was replaced
 --   part-add                   a part is its first bytes and those behind them
 --   part_none part_cons        a part of no bytes, and its first byte
@@ -249,3 +250,7 @@ same_bytes_lem (x ∷ xs) (y ∷ ys) e =
 pub same_true : (a : List ℕ) → same_bytes a a ≡ true
 same_true [] = refl
 same_true (x ∷ xs) = and_both (eqb x x) _ (eq-eqb x x refl) (same_true xs)
+
+-- ---- for a tactic: what a buffer is after it was written
+
+pub ruleset buffers = (length-splice, length-zeros, length_part, join-start, splice-next, part-start)

@@ -6,13 +6,13 @@
 --   call-granted call-denied     a call by its permit
 --
 -- Assumes nothing.
+use Rattle.std.specs.Prelude.{Ok, Err}
 use mathlib.Core.Path.{◌≡◌, refl, ap, ◌∙◌, subst}
 use mathlib.Core.Bool.{Bool, true, false, not}
 use lib.ListN.{length}
 use borrow.Author.Tests.{eqb-true, eq-eqb, not-false}
 use Rattle.rules.specs.declared.Refusal.{Refusal}
-use Rattle.rules.specs.declared.Permit.{Permit}
-use Rattle.rules.specs.declared.Permit.TheVariants.{Granted, Denied}
+use Rattle.rules.specs.Fault.{Permit}
 use Rattle.rules.specs.Store.{work_size, well_formed}
 use Rattle.rules.specs.Session.{State}
 use Rattle.rules.specs.Calls.{Call, powers, ill_session, short_response, interrupts, unasked, wrong_result, permit, granted, denied, decided, call}
@@ -28,8 +28,8 @@ pub record Lets (st : State) (k : Call) : Type 0 where
   pub result : wrong_result k st.session ≡ false
 
 abbrev If : Type 0 → Permit → Type 0
-If A Granted = A
-If A (Denied r) = Unit {0}
+If A (Ok u) = A
+If A (Err r) = Unit {0}
 
 row_lets : (st : State) (k : Call) → If (Lets st k) (permit st k)
 unfolding permit
@@ -51,25 +51,25 @@ row_lets st k =
       result = b7;
     }
 
-pub granted_lets : (st : State) (k : Call) → permit st k ≡ Granted → Lets st k
+pub granted_lets : (st : State) (k : Call) → permit st k ≡ Ok tt → Lets st k
 granted_lets st k e = subst (If (Lets st k)) e (row_lets st k)
 
-pub lets_granted : (st : State) (k : Call) → Lets st k → permit st k ≡ Granted
+pub lets_granted : (st : State) (k : Call) → Lets st k → permit st k ≡ Ok tt
 unfolding permit
 lets_granted st k l =
     off _ _ _ (ap not l.store) ∙ off _ _ _ l.session ∙ off _ _ _ l.response ∙ off _ _ _ (ap not (eq-eqb _ _ l.work))
     ∙ off _ _ _ l.free ∙ off _ _ _ l.asked ∙ off _ _ _ l.result
 
 -- a power-on is granted where the store is well formed and the work area has its size
-pub power_granted : (st : State) (air : Bool) → well_formed st.store ≡ true → length st.work ≡ work_size → permit st (powers air) ≡ Granted
+pub power_granted : (st : State) (air : Bool) → well_formed st.store ≡ true → length st.work ≡ work_size → permit st (powers air) ≡ Ok tt
 unfolding ill_session short_response interrupts unasked wrong_result
 power_granted st air w l =
     lets_granted st (powers air) (record { store = w; session = refl; response = refl; work = l; free = refl; asked = refl; result = refl })
 
-pub call-granted : (st : State) (k : Call) → permit st k ≡ Granted → call st k ≡ granted st k
+pub call-granted : (st : State) (k : Call) → permit st k ≡ Ok tt → call st k ≡ granted st k
 unfolding call decided
 call-granted st k e = ap (decided st k) e
 
-pub call-denied : (st : State) (k : Call) (r : Refusal) → permit st k ≡ Denied r → call st k ≡ denied st k r
+pub call-denied : (st : State) (k : Call) (r : Refusal) → permit st k ≡ Err r → call st k ≡ denied st k r
 unfolding call decided
 call-denied st k r e = ap (decided st k) e

@@ -6,6 +6,7 @@
 --   no_chain no_rest none_open    what is not held beside a rest, a chain or an open job
 --
 -- Assumes nothing.
+use Rattle.std.specs.Prelude.{Option, None, Some}
 use mathlib.Core.Path.{◌≡◌, refl, ap, sym, ◌∙◌}
 use mathlib.Core.Bool.{Bool, true, not, ◌&&◌, ◌||◌, false≢true}
 use Prim.Native.Nat.{ℕ, ◌+◌, ◌≤◌}
@@ -14,9 +15,7 @@ use lib.Dec.{leb}
 use lib.ListN.{get_or}
 use borrow.Author.Tests.{leb-true}
 use Rattle.rules.specs.declared.Chain.{Chain}
-use Rattle.rules.specs.declared.Chain.TheVariants.{Shut, Open}
 use Rattle.rules.specs.declared.Rest.{Rest}
-use Rattle.rules.specs.declared.Rest.TheVariants.{Gone, Left}
 use Rattle.rules.specs.declared.Session.{Session}
 use Rattle.rules.specs.Store.{work_size}
 use Rattle.rules.specs.Session.{chain_length, whole_length, chain_open, rest_held, challenge_held, job_open, chain_ok, rest_ok, job_ok, session_tests, possible}
@@ -40,28 +39,28 @@ unfolding possible session_tests
 possible_by ss f =
     and_both (chain_ok ss.chain) _ f.chain (and_both (rest_ok ss.rest) _ f.rest (and_both _ _ f.apart (and_both _ _ f.alone (and_both (job_ok ss.job) true f.job refl))))
 
-pub chain_fits : (c : Chain) → chain_ok c ≡ true → chain_length c ≤ work_size
-chain_fits Shut e = omega arith
-chain_fits (Open ins p1 p2 n) e = leb-true n work_size (and_left (leb n work_size) _ e)
+pub chain_fits : (c : Option Chain) → chain_ok c ≡ true → chain_length c ≤ work_size
+chain_fits None e = omega arith
+chain_fits (Some c) e = leb-true c.len work_size (and_left (leb c.len work_size) _ e)
 
-pub held_fits_by : (c : Chain) (r : Rest) → chain_ok c ≡ true → rest_ok r ≡ true → not (chain_open c && rest_held r) ≡ true → chain_length c + whole_length r ≤ work_size
-held_fits_by Shut Gone a b o = omega arith
-held_fits_by Shut (Left whole k) a b o = omega (arith, leb-true whole work_size (and_left (leb whole work_size) _ b))
-held_fits_by (Open ins p1 p2 n) Gone a b o = omega (arith, chain_fits (Open ins p1 p2 n) a)
-held_fits_by (Open ins p1 p2 n) (Left whole k) a b o = absurd (false≢true o)
+pub held_fits_by : (c : Option Chain) (r : Option Rest) → chain_ok c ≡ true → rest_ok r ≡ true → not (chain_open c && rest_held r) ≡ true → chain_length c + whole_length r ≤ work_size
+held_fits_by None None a b o = omega arith
+held_fits_by None (Some r) a b o = omega (arith, leb-true r.whole work_size (and_left (leb r.whole work_size) _ b))
+held_fits_by (Some c) None a b o = omega (arith, chain_fits (Some c) a)
+held_fits_by (Some c) (Some r) a b o = absurd (false≢true o)
 
 -- with a rest there is no chain, and with a chain no rest
-pub no_chain : (c : Chain) (r : Rest) → not (chain_open c && rest_held r) ≡ true → rest_held r ≡ true → chain_length c ≡ 0
-no_chain Shut r o e = refl
-no_chain (Open ins p1 p2 n) r o e = absurd (false≢true (sym (ap not e) ∙ o))
+pub no_chain : (c : Option Chain) (r : Option Rest) → not (chain_open c && rest_held r) ≡ true → rest_held r ≡ true → chain_length c ≡ 0
+no_chain None r o e = refl
+no_chain (Some c) r o e = absurd (false≢true (sym (ap not e) ∙ o))
 
-pub no_rest : (c : Chain) (r : Rest) → not (chain_open c && rest_held r) ≡ true → chain_open c ≡ true → whole_length r ≡ 0
-no_rest c Gone o e = refl
-no_rest Shut (Left whole k) o e = absurd (false≢true e)
-no_rest (Open ins p1 p2 n) (Left whole k) o e = absurd (false≢true o)
+pub no_rest : (c : Option Chain) (r : Option Rest) → not (chain_open c && rest_held r) ≡ true → chain_open c ≡ true → whole_length r ≡ 0
+no_rest c None o e = refl
+no_rest None (Some r) o e = absurd (false≢true e)
+no_rest (Some c) (Some r) o e = absurd (false≢true o)
 
 -- with a job open nothing is held
-pub none_open : (c : Chain) (r : Rest) (h : Bool) → not (chain_open c || rest_held r || h) ≡ true → chain_length c + whole_length r ≡ 0
-none_open Shut Gone h e = refl
-none_open Shut (Left whole k) h e = absurd (false≢true e)
-none_open (Open ins p1 p2 n) r h e = absurd (false≢true e)
+pub none_open : (c : Option Chain) (r : Option Rest) (h : Bool) → not (chain_open c || rest_held r || h) ≡ true → chain_length c + whole_length r ≡ 0
+none_open None None h e = refl
+none_open None (Some r) h e = absurd (false≢true e)
+none_open (Some c) r h e = absurd (false≢true e)

@@ -8,6 +8,7 @@
 --   finished_quiet         the result of a job
 --
 -- Assumes nothing.
+use Rattle.std.specs.Prelude.{Option, None, Some, Ok, Err}
 use mathlib.Core.Path.{◌≡◌, refl, ap, sym, ◌∙◌, subst}
 use mathlib.Core.Logic.{inl, inr}
 use mathlib.Core.Bool.{Bool, true, false, true≢false, false≢true}
@@ -17,24 +18,14 @@ use native.Mathlib.Omega.{arith}
 use lib.Dec.{eqb}
 use lib.ListN.{length, get_or}
 use borrow.Author.Tests.{ltb-true, not-false}
-use Rattle.rules.specs.declared.Chain.TheVariants.{Shut}
 use Rattle.rules.specs.declared.Rest.{Rest}
-use Rattle.rules.specs.declared.Rest.TheVariants.{Gone, Left}
-use Rattle.rules.specs.declared.Challenge.{Challenge}
-use Rattle.rules.specs.declared.Challenge.TheVariants.{Unasked, Awaits}
 use Rattle.rules.specs.declared.Job.{Job}
-use Rattle.rules.specs.declared.Job.TheVariants.{Idle, Running}
-use Rattle.rules.specs.declared.Found.{Found}
-use Rattle.rules.specs.declared.Found.TheVariants.{Value, Missing}
-use Rattle.rules.specs.declared.Asked.{Asked}
-use Rattle.rules.specs.declared.Asked.TheVariants.{Slot, NoTag}
-use Rattle.rules.specs.declared.Put.{Put}
-use Rattle.rules.specs.declared.Put.TheVariants.{Object, NoObject}
+use Rattle.rules.specs.declared.Place.{Place}
+use Rattle.rules.specs.Objects.{Put}
 use Rattle.rules.specs.declared.Admin.{Admin}
-use Rattle.rules.specs.declared.Admin.TheVariants.{GiveChallenge, Reply, NoForm}
+use Rattle.rules.specs.declared.Admin.TheVariants.{GiveChallenge, Reply}
 use Rattle.rules.specs.declared.Header.{Header}
-use Rattle.rules.specs.declared.Checked.{Checked}
-use Rattle.rules.specs.declared.Checked.TheVariants.{Passed, Failed}
+use Rattle.rules.specs.Command.{Checked}
 use Rattle.rules.specs.declared.Session.{Session}
 use Rattle.rules.specs.Bytes.{iff, part, splice}
 use Rattle.rules.specs.Reference.{none_left, charged, reference_at}
@@ -263,10 +254,10 @@ module _ (s t w : List ℕ) (ss : Session) (pn : ss.pin ≡ false) (k : Pair s t
   unfolding give_object
   give_quiet le i v = walk Quiet _ (λ b. says_quiet _) λ b. send_quiet le _
 
-  asked-slot : (le : ℕ) (a : Asked) → Quiet (get_asked (state s w ss) le a) (get_asked (state t w ss) le a)
+  asked-slot : (le : ℕ) (a : Option ℕ) → Quiet (get_asked (state s w ss) le a) (get_asked (state t w ss) le a)
   unfolding get_asked get_slot
-  asked-slot le NoTag = says_quiet _
-  asked-slot le (Slot i) =
+  asked-slot le None = says_quiet _
+  asked-slot le (Some i) =
       walk Quiet _ (λ b. says_quiet _)
       λ hi. walk Quiet _ (λ b. says_quiet _)
       λ hr. let l : i < slots = ltb-true i slots (not-false _ hi) in
@@ -283,15 +274,16 @@ module _ (s t w : List ℕ) (ss : Session) (pn : ss.pin ≡ false) (k : Pair s t
   unfolding put_object
   alike_put i v l c = alike_splice s t k.alike _ (slot_bytes i v) (put_fits s i v l c (wf_size s k.first))
 
-  slot_quiet : (d : List ℕ) (p : Put) → Quiet (put_slot (state s w ss) d p) (put_slot (state t w ss) d p)
+  slot_quiet : (d : List ℕ) (p : Option Put) → Quiet (put_slot (state s w ss) d p) (put_slot (state t w ss) d p)
   unfolding put_slot stored takes
-  slot_quiet d NoObject = says_quiet _
-  slot_quiet d (Object i from n) =
+  slot_quiet d None = says_quiet _
+  slot_quiet d (Some p) =
       walk Quiet _ (λ b. says_quiet _)
       λ hi. walk Quiet _ (λ b. says_quiet _)
-      λ hn. let l : i < slots = ltb-true i slots (not-false _ hi) in
-      let v : List ℕ = part d from n in
-      let c : length v ≤ capacity i = takes_fits s i n from d (not-false _ hn) in
+      λ hn. let i : ℕ = p.slot in
+      let l : i < slots = ltb-true i slots (not-false _ hi) in
+      let v : List ℕ = part d p.value.from p.value.len in
+      let c : length v ≤ capacity i = takes_fits s i p.value.len p.value.from d (not-false _ hn) in
       record {
         twins = λ m e. twin _ w ss [] (in_slot i v) (put_object s i v) (put_object t i v) pn (record {
           alike = alike_put i v l c;
@@ -314,26 +306,26 @@ module _ (s t w : List ℕ) (ss : Session) (pn : ss.pin ≡ false) (k : Pair s t
   unfolding opened
   opened_quiet key alg le d = record { twins = λ m n. twin _ _ _ _ _ s t pn k }
 
-  replied_quiet : (ch : Challenge) (r : ℕ) → Quiet (replied (state s w ss) ch r) (replied (state t w ss) ch r)
+  replied_quiet : (ch : Option ℕ) (r : ℕ) → Quiet (replied (state s w ss) ch r) (replied (state t w ss) ch r)
   unfolding replied
-  replied_quiet Unasked r = says_quiet _
-  replied_quiet (Awaits x) r = walk Quiet _ (λ b. record { twins = λ m n. twin _ _ _ _ _ s t pn k }) (λ b. record { twins = λ m n. twin _ _ _ _ _ s t pn k })
+  replied_quiet None r = says_quiet _
+  replied_quiet (Some x) r = walk Quiet _ (λ b. record { twins = λ m n. twin _ _ _ _ _ s t pn k }) (λ b. record { twins = λ m n. twin _ _ _ _ _ s t pn k })
 
-  admin_quiet : (ch : Challenge) (le : ℕ) (l : List ℕ) (a : Admin) → Quiet (auth_admin ch (state s w ss) le l a) (auth_admin ch (state t w ss) le l a)
+  admin_quiet : (ch : Option ℕ) (le : ℕ) (l : List ℕ) (a : Option Admin) → Quiet (auth_admin ch (state s w ss) le l a) (auth_admin ch (state t w ss) le l a)
   unfolding auth_admin
-  admin_quiet ch le l GiveChallenge = opened_quiet _ _ _ _
-  admin_quiet ch le l (Reply from) = replied_quiet ch _
-  admin_quiet ch le l NoForm = says_quiet _
+  admin_quiet ch le l (Some GiveChallenge) = opened_quiet _ _ _ _
+  admin_quiet ch le l (Some (Reply from)) = replied_quiet ch _
+  admin_quiet ch le l None = says_quiet _
 
-  key_quiet : (h : Header) (l : List ℕ) (f : Found) → Quiet (auth_key (state s w ss) h l f) (auth_key (state t w ss) h l f)
+  key_quiet : (h : Header) (l : List ℕ) (f : Option Place) → Quiet (auth_key (state s w ss) h l f) (auth_key (state t w ss) h l f)
   unfolding auth_key
-  key_quiet h l Missing = says_quiet _
-  key_quiet h l (Value from n) = opened_quiet _ _ _ _
+  key_quiet h l None = says_quiet _
+  key_quiet h l (Some v) = opened_quiet _ _ _ _
 
-  form_quiet : (ch : Challenge) (h : Header) (d : List ℕ) (f : Found) → Quiet (auth_form ch h (state s w ss) d f) (auth_form ch h (state t w ss) d f)
+  form_quiet : (ch : Option ℕ) (h : Header) (d : List ℕ) (f : Option Place) → Quiet (auth_form ch h (state s w ss) d f) (auth_form ch h (state t w ss) d f)
   unfolding auth_form auth_in
-  form_quiet ch h d Missing = says_quiet _
-  form_quiet ch h d (Value from n) = walk Quiet _ (λ b. admin_quiet ch _ _ _) (λ b. key_quiet h _ _)
+  form_quiet ch h d None = says_quiet _
+  form_quiet ch h d (Some v) = walk Quiet _ (λ b. admin_quiet ch _ _ _) (λ b. key_quiet h _ _)
 
 -- ---- two states
 
@@ -383,7 +375,7 @@ put_quiet _ _ (twins s t w ss pn k) h d = piece_quiet _ _ (twins s t w ss pn k) 
     whole : (u v : State) → Twins u v → (l : List ℕ) → Quiet (put_whole u l) (put_whole v l)
     whole _ _ (twins s t w ss pn k) l = unfold put_whole in slot_quiet s t w ss pn k l (put_form l)
 
-auth_quiet : (ch : Challenge) (x y : State) → Twins x y → (h : Header) (d : List ℕ) → Quiet (auth_piece ch x h d) (auth_piece ch y h d)
+auth_quiet : (ch : Option ℕ) (x y : State) → Twins x y → (h : Header) (d : List ℕ) → Quiet (auth_piece ch x h d) (auth_piece ch y h d)
 unfolding auth_piece
 auth_quiet ch _ _ (twins s t w ss pn k) h d = piece_quiet _ _ (twins s t w ss pn k) h d _ _ (each_same s t w ss pn k h _) (auth_whole ch h) whole
   where
@@ -400,10 +392,10 @@ module _ (s t w : List ℕ) (ss : Session) (pn : ss.pin ≡ false) (k : Pair s t
   unfolding fetch dropped
   fetch_quiet le whole n = walk Quiet _ (λ b. record { twins = λ a c. twin _ _ _ _ _ s t pn k }) (λ b. record { twins = λ a c. twin _ _ _ _ _ s t pn k })
 
-  rest_quiet : (le : ℕ) (r : Rest) → Quiet (get_rest (state s w ss) le r) (get_rest (state t w ss) le r)
+  rest_quiet : (le : ℕ) (r : Option Rest) → Quiet (get_rest (state s w ss) le r) (get_rest (state t w ss) le r)
   unfolding get_rest
-  rest_quiet le Gone = drop-says _ _ both _
-  rest_quiet le (Left whole n) = fetch_quiet le whole n
+  rest_quiet le None = drop-says _ _ both _
+  rest_quiet le (Some r) = fetch_quiet le r.whole r.fetched
 
   response_quiet : (h : Header) (d : List ℕ) → Quiet (get_response (state s w ss) h d) (get_response (state t w ss) h d)
   unfolding get_response
@@ -423,9 +415,9 @@ module _ (s t w : List ℕ) (ss : Session) (pn : ss.pin ≡ false) (k : Pair s t
   rule_quiet : (x y : Said) → SaidQuiet x y → RefsOk (after (refs (state s w ss)) x) → RefsOk (after (refs (state t w ss)) y)
       → Quiet (on_refs (dropped (state s w ss)) x) (on_refs (dropped (state t w ss)) y)
   unfolding dropped refs
-  rule_quiet x y q a b = refs_quiet s t _ (holding ss Shut Gone) pn k x y q a b
+  rule_quiet x y q a b = refs_quiet s t _ (holding ss None None) pn k x y q a b
 
-  ruled_quiet : (ch : Challenge) (h : Header) (d : List ℕ) → Quiet (ruled (state s w ss) ch h d) (ruled (state t w ss) ch h d)
+  ruled_quiet : (ch : Option ℕ) (h : Header) (d : List ℕ) → Quiet (ruled (state s w ss) ch h d) (ruled (state t w ss) ch h d)
   unfolding ruled authenticate put_data dropped
   ruled_quiet ch h d =
       walk Quiet _ (λ b. select_quiet s t _ _ pn k h d)
@@ -437,10 +429,10 @@ module _ (s t w : List ℕ) (ss : Session) (pn : ss.pin ≡ false) (k : Pair s t
       λ b. walk Quiet _ (λ b. auth_quiet ch _ _ (based_twins _ _ both h) h d)
       λ b. put_quiet _ _ (based_twins _ _ both h) h d
 
-  obeyed_quiet : (ch : Challenge) (c : List ℕ) (x : Checked) → Quiet (obeyed (state s w ss) ch c x) (obeyed (state t w ss) ch c x)
+  obeyed_quiet : (ch : Option ℕ) (c : List ℕ) (x : Checked) → Quiet (obeyed (state s w ss) ch c x) (obeyed (state t w ss) ch c x)
   unfolding obeyed
-  obeyed_quiet ch c (Failed sw) = drop-says _ _ both _
-  obeyed_quiet ch c (Passed h) = ruled_quiet ch h (field_of c h)
+  obeyed_quiet ch c (Err sw) = drop-says _ _ both _
+  obeyed_quiet ch c (Ok h) = ruled_quiet ch h (field_of c h)
 
   answered_quiet : (key le : ℕ) (failed : Bool) (r : List ℕ) → Quiet (answered (state s w ss) key le failed r) (answered (state t w ss) key le failed r)
   unfolding answered challenged
@@ -451,8 +443,8 @@ pub command_quiet : (s t w : List ℕ) (ss : Session) → ss.pin ≡ false → P
 unfolding command calm
 command_quiet s t w ss pn k c = obeyed_quiet s t w _ pn k ss.challenge c _
 
-pub finished_quiet : (s t w : List ℕ) (ss : Session) → ss.pin ≡ false → Pair s t → (j : Job) (failed : Bool) (r : List ℕ)
+pub finished_quiet : (s t w : List ℕ) (ss : Session) → ss.pin ≡ false → Pair s t → (j : Option Job) (failed : Bool) (r : List ℕ)
     → Quiet (finished (state s w ss) j failed r) (finished (state t w ss) j failed r)
 unfolding finished
-finished_quiet s t w ss pn k Idle failed r = says_quiet s t w ss pn k _
-finished_quiet s t w ss pn k (Running key alg le) failed r = answered_quiet s t w _ pn k key le failed r
+finished_quiet s t w ss pn k None failed r = says_quiet s t w ss pn k _
+finished_quiet s t w ss pn k (Some j) failed r = answered_quiet s t w _ pn k j.key j.le failed r

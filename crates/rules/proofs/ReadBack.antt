@@ -1,5 +1,6 @@
 -- An object stored is what GET DATA and GET RESPONSEs hand back (specs/Claims/ReadBack).
 -- Assumes nothing.
+use Rattle.std.specs.Prelude.{Option, None, Some, Ok, Err}
 use mathlib.Core.Path.{◌≡◌, refl, ap, sym, ◌∙◌, subst}
 use mathlib.Core.Bool.{false}
 use mathlib.Core.List.{List, [], ◌∷◌}
@@ -7,11 +8,8 @@ use Prim.Native.Nat.{ℕ, ◌+◌, ◌≤◌, ◌<◌}
 use native.Mathlib.Omega.{arith}
 use lib.ListN.{get_or}
 use Rattle.rules.specs.declared.Header.{Header}
-use Rattle.rules.specs.declared.Checked.TheVariants.{Passed}
-use Rattle.rules.specs.declared.Permit.{Permit}
-use Rattle.rules.specs.declared.Permit.TheVariants.{Granted, Denied}
-use Rattle.rules.specs.declared.Put.{Put}
-use Rattle.rules.specs.declared.Put.TheVariants.{Object, NoObject}
+use Rattle.rules.specs.Fault.{Permit}
+use Rattle.rules.specs.Objects.{Put}
 use Rattle.rules.specs.Bytes.{be16}
 use Rattle.rules.specs.Store.{slots, offset, slot_length, object_of}
 use Rattle.rules.specs.Session.{State, job_open}
@@ -94,10 +92,10 @@ abbrev Wrote? : Wrote → Type 0
 Wrote? nothing = ⊥
 Wrote? (in_slot i v) = Unit {0}
 
-slot-left : (st : State) (d : List ℕ) (p : Put) → Left st.store (put_slot st d p)
+slot-left : (st : State) (d : List ℕ) (p : Option Put) → Left st.store (put_slot st d p)
 unfolding put_slot stored
-slot-left st d NoObject = λ e. refl
-slot-left st d (Object i from n) =
+slot-left st d None = λ e. refl
+slot-left st d (Some p) =
     either (Left st.store) _ (λ e. refl) (either (Left st.store) _ (λ e. refl) (λ e. absurd (subst Wrote? e tt)))
 
 piece-left : (st : State) (h : Header) (d : List ℕ) → Left st.store (put_piece st h d)
@@ -109,17 +107,17 @@ based-store : (st : State) (h : Header) → (based (calm st) h).store ≡ st.sto
 unfolding based calm dropped
 based-store st h = either (λ (x : State). x.store ≡ st.store) _ refl refl
 
-decided-left : (st : State) (resp c : List ℕ) (h : Header) → check st.session.contactless c ≡ Passed h → h.ins ≡ 0xDB → (p : Permit)
+decided-left : (st : State) (resp c : List ℕ) (h : Header) → check st.session.contactless c ≡ Ok h → h.ins ≡ 0xDB → (p : Permit)
     → (decided st (sends resp c) p).wrote ≡ nothing → (decided st (sends resp c) p).outcome.store ≡ st.store
 unfolding decided granted denied delivered
-decided-left st resp c h e i Granted =
+decided-left st resp c h e i (Ok u) =
     subst (λ (m : Made). m.wrote ≡ nothing → m.after.store ≡ st.store) (sym (command-put st c h e i))
     (subst (λ (s : List ℕ). Left s (put_piece (based (calm st) h) h (field_of c h))) (based-store st h) (piece-left (based (calm st) h) h (field_of c h)))
-decided-left st resp c h e i (Denied r) = λ q. refl
+decided-left st resp c h e i (Err r) = λ q. refl
 
 -- ---- the claim
 
-put-left : (st : State) (resp c : List ℕ) (h : Header) → check st.session.contactless c ≡ Passed h → h.ins ≡ 0xDB
+put-left : (st : State) (resp c : List ℕ) (h : Header) → check st.session.contactless c ≡ Ok h → h.ins ≡ 0xDB
     → (call st (sends resp c)).wrote ≡ nothing → (call st (sends resp c)).outcome.store ≡ st.store
 unfolding call
 put-left st resp c h e i = decided-left st resp c h e i (permit st (sends resp c))

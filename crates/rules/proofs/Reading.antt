@@ -7,6 +7,7 @@
 --   answers                what is said of a slot
 --
 -- Assumes nothing.
+use Rattle.std.specs.Prelude.{None, Some}
 use mathlib.Core.Path.{◌≡◌, refl, ap, ap₂, sym, ◌∙◌, subst}
 use mathlib.Core.Bool.{Bool, true, false, not, ◌&&◌, ◌||◌}
 use mathlib.Core.List.{List, [], ◌∷◌, ◌++◌, map, append-nil, append_assoc}
@@ -16,15 +17,14 @@ use lib.Dec.{ltb, eqb}
 use lib.ListN.{length, take, drop, get_or, length-drop, take-append-drop}
 use lib.Seq.{take_at, drop-append-le, get_or-append-add}
 use borrow.Author.Tests.{eqb-true, ne_eqb, eq-eqb, ltb-true, le-leb, lt-leb, lt-ltb, le-ltb}
-use Rattle.rules.specs.declared.Rest.TheVariants.{Left}
-use Rattle.rules.specs.declared.Challenge.TheVariants.{Unasked}
-use Rattle.rules.specs.declared.Chain.TheVariants.{Shut}
 use Rattle.rules.specs.declared.Session.{Session}
 use Rattle.rules.specs.Bytes.{iff, all, all_below, part, splice, word, be16, be24}
 use Rattle.rules.specs.Book.{book}
 use Rattle.rules.specs.Ber.{tlv}
-use Rattle.rules.specs.Store.{Access, always, PIN, never, contact_read, contactless_read, work_size, response_size, slots, discovery, slot_named, tag_of, object_of}
-use Rattle.rules.specs.Session.{State, state, holding, with_challenge, allows, readable, job_open}
+use Rattle.rules.specs.declared.Access.{Access}
+use Rattle.rules.specs.declared.Access.TheVariants.{Always, WithPin, Never}
+use Rattle.rules.specs.Store.{contact_read, contactless_read, work_size, response_size, slots, discovery, slot_named, tag_of, object_of}
+use Rattle.rules.specs.Session.{State, state, holding, with_challenge, allows, readable, job_open, rest_of}
 use Rattle.rules.specs.Command.{responds, tells, says}
 use Rattle.rules.specs.Held.{calm, dropped, left_word, send, fetch}
 use Rattle.rules.specs.Objects.{object_tag, give_object, get_slot, get_rest}
@@ -163,7 +163,7 @@ asking x = sends x.resp (more x.le)
 abbrev Reads : State → List Call → List ℕ → Type 0
 Reads st ks d = (joined (run st ks) ≡ d) × (last_word (run st ks) ≡ 0x9000)
 
-module _ (st : State) (g : Well st) (j : job_open st.session ≡ false) (whole k : ℕ) (e : st.session.rest ≡ Left whole k) (a : Ask) (o : AskOk a) where
+module _ (st : State) (g : Well st) (j : job_open st.session ≡ false) (whole k : ℕ) (e : st.session.rest ≡ Some (rest_of whole k)) (a : Ask) (o : AskOk a) where
   fetches : call st (asking a) ≡ delivered a.resp (fetch (calm st) (wanted a.le) whole k)
   unfolding get_rest
   fetches = call-sends st a.resp (more a.le) g j o.room ∙ ap (delivered a.resp) (more_is st a.le ∙ ap (get_rest (calm st) (wanted a.le)) e)
@@ -173,7 +173,7 @@ module _ (st : State) (g : Well st) (j : job_open st.session ≡ false) (whole k
   last-fetch l = fetches ∙ ap (delivered a.resp) (on _ _ _ (le-leb (whole - k) (wanted a.le) l))
 
   abbrev next_state : State
-  next_state = state st.store st.work (holding (with_challenge st.session Unasked) Shut (Left whole (k + wanted a.le)))
+  next_state = state st.store st.work (holding (with_challenge st.session None) None (Some (rest_of whole (k + wanted a.le))))
 
   next-fetch : wanted a.le < whole - k → call st (asking a)
       ≡ delivered a.resp (tells next_state (responds (part st.work k (wanted a.le)) (left_word (whole - k - wanted a.le))))
@@ -187,7 +187,7 @@ module _ (st : State) (g : Well st) (j : job_open st.session ≡ false) (whole k
   next-well : wanted a.le < whole - k → Well next_state
   next-well l = subst Well (next-leaves l) (call_kept st g (asking a) (more_bytes a.le o.le)).well
 
-pub rest_read : (bs : List Ask) (a : Ask) (st : State) (whole k : ℕ) → Well st → job_open st.session ≡ false → st.session.rest ≡ Left whole k → k < whole
+pub rest_read : (bs : List Ask) (a : Ask) (st : State) (whole k : ℕ) → Well st → job_open st.session ≡ false → st.session.rest ≡ Some (rest_of whole k) → k < whole
     → AskOk a → AsksOk bs → Ends (whole - k) a bs → Reads st (map asking (a ∷ bs)) (part st.work k (whole - k))
 unfolding run joined last_word
 rest_read [] a st whole k g j e h o os n = (
@@ -227,9 +227,9 @@ module _ (st : State) (le i : ℕ) (h : i < slots) where
   full-slot r z = off _ _ _ (ap not (lt-ltb i slots h)) ∙ off _ _ _ (ap not r) ∙ off _ _ _ (ne_eqb (length (object_of st.store i)) 0 (λ e. omega (arith, z, e)))
 
 allows-same : (ss zz : Session) → ss.pin ≡ zz.pin → (a : Access) → allows ss a ≡ allows zz a
-allows-same ss zz e always = refl
-allows-same ss zz e PIN = e
-allows-same ss zz e never = refl
+allows-same ss zz e Always = refl
+allows-same ss zz e WithPin = e
+allows-same ss zz e Never = refl
 
 module _ (st : State) (g : Well st) (j : job_open st.session ≡ false) (i : ℕ) (h : i < slots) (a : Ask) (o : AskOk a) where
   -- the state in which the slot is looked at
@@ -241,7 +241,7 @@ module _ (st : State) (g : Well st) (j : job_open st.session ≡ false) (i : ℕ
 
   seen-readable : readable seen.session i ≡ readable st.session i
   unfolding dropped calm readable
-  seen-readable = allows-same seen.session st.session refl (iff st.session.contactless (get_or contactless_read i never) (get_or contact_read i never))
+  seen-readable = allows-same seen.session st.session refl (iff st.session.contactless (get_or contactless_read i Never) (get_or contact_read i Never))
 
   seen-store : seen.store ≡ st.store
   unfolding dropped calm
@@ -263,7 +263,7 @@ module _ (st : State) (g : Well st) (j : job_open st.session ≡ false) (i : ℕ
     once l = gets-slot ∙ ap (delivered a.resp) (sent ∙ on _ _ _ (le-leb (length d) (wanted a.le) l))
 
     abbrev begun : State
-    begun = state seen.store (splice seen.work 0 d) (holding seen.session Shut (Left (length d) (wanted a.le)))
+    begun = state seen.store (splice seen.work 0 d) (holding seen.session None (Some (rest_of (length d) (wanted a.le))))
 
     begins : wanted a.le < length d → call st (sends a.resp (gets i a.le))
         ≡ delivered a.resp (tells begun (responds (take (wanted a.le) d) (left_word (length d - wanted a.le))))

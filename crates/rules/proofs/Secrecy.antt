@@ -1,11 +1,11 @@
 -- A found card tells its finder nothing (specs/Claims/Secrecy).
 -- Assumes nothing.
+use Rattle.std.specs.Prelude.{Ok, Err}
 use mathlib.Core.Path.{◌≡◌, refl, sym, subst}
 use mathlib.Core.Bool.{Bool, true, false}
 use mathlib.Core.List.{List, [], ◌∷◌}
 use Prim.Native.Nat.{ℕ}
-use Rattle.rules.specs.declared.Permit.{Permit}
-use Rattle.rules.specs.declared.Permit.TheVariants.{Granted, Denied}
+use Rattle.rules.specs.Fault.{Permit}
 use Rattle.rules.specs.declared.Refusal.{Refusal}
 use Rattle.rules.specs.declared.Answer.{Answer}
 use Rattle.rules.specs.declared.Session.{Session}
@@ -49,8 +49,8 @@ module _ (s t w : List ℕ) (ss : Session) (pn : ss.pin ≡ false) (k : Pair s t
   decided-shows : (c : Call) (p : Permit) → no_equal (decided (state s w ss) c p).steps ≡ true → no_equal (decided (state t w ss) c p).steps ≡ true
       → Shows (decided (state s w ss) c p) (decided (state t w ss) c p)
   unfolding decided
-  decided-shows c Granted m n = granted-shows c m n
-  decided-shows c (Denied r) m n = denied-shows c r
+  decided-shows c (Ok u) m n = granted-shows c m n
+  decided-shows c (Err r) m n = denied-shows c r
 
   call-shows : (c : Call) → no_equal (call (state s w ss) c).steps ≡ true → no_equal (call (state t w ss) c).steps ≡ true
       → Shows (call (state s w ss) c) (call (state t w ss) c)

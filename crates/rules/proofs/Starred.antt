@@ -11,6 +11,7 @@
 --   starred                the claim
 --
 -- Assumes nothing.
+use Rattle.std.specs.Prelude.{Ok, Err}
 use mathlib.Core.Path.{◌≡◌, refl, ap, sym, ◌∙◌, subst}
 use mathlib.Core.Bool.{Bool, true, false, not, ◌&&◌, false≢true}
 use mathlib.Core.List.{List, [], ◌∷◌, map, head-eq_of_cons-eq, tail-eq_of_cons-eq}
@@ -19,8 +20,7 @@ use lib.Dec.{ltb, eqb}
 use lib.ListN.{length, replicate, length-replicate}
 use borrow.Author.Tests.{eq-eqb}
 use Rattle.rules.specs.declared.Refusal.TheVariants.{IllStore, IllSession, ShortResponse, WrongWork, JobOpen, NoJob, WrongResult}
-use Rattle.rules.specs.declared.Permit.{Permit}
-use Rattle.rules.specs.declared.Permit.TheVariants.{Granted, Denied}
+use Rattle.rules.specs.Fault.{Permit}
 use Rattle.rules.specs.declared.Session.{Session}
 use Rattle.rules.specs.Book.{book}
 use Rattle.rules.specs.Bytes.{iff, all_true, all, same_bytes, zeros}
@@ -86,14 +86,14 @@ met (both t u) o ps e s =
 
 unfoldable judged : Bool → State → Call → Permit
 judged w st k =
-    iff (not w) (Denied IllStore)
-    (iff (ill_session k st.session) (Denied IllSession)
-    (iff (short_response k) (Denied ShortResponse)
-    (iff (not (eqb (length st.work) work_size)) (Denied WrongWork)
-    (iff (interrupts k st.session) (Denied JobOpen)
-    (iff (unasked k st.session) (Denied NoJob)
-    (iff (wrong_result k st.session) (Denied WrongResult)
-    Granted))))))
+    iff (not w) (Err IllStore)
+    (iff (ill_session k st.session) (Err IllSession)
+    (iff (short_response k) (Err ShortResponse)
+    (iff (not (eqb (length st.work) work_size)) (Err WrongWork)
+    (iff (interrupts k st.session) (Err JobOpen)
+    (iff (unasked k st.session) (Err NoJob)
+    (iff (wrong_result k st.session) (Err WrongResult)
+    (Ok tt)))))))
 
 call_is : (w : Bool) (st : State) (k : Call) → well_formed st.store ≡ w → call st k ≡ decided st k (judged w st k)
 unfolding call permit judged
@@ -104,18 +104,18 @@ call_is w st k e = ap (λ (b : Bool). decided st k (judged b st k)) e
 -- the row of refusals in a run, where the store is well formed and the work area has its size
 unfoldable in_run : State → Call → Permit
 in_run st k =
-    iff (ill_session k st.session) (Denied IllSession)
-    (iff (short_response k) (Denied ShortResponse)
-    (iff (interrupts k st.session) (Denied JobOpen)
-    (iff (unasked k st.session) (Denied NoJob)
-    (iff (wrong_result k st.session) (Denied WrongResult)
-    Granted))))
+    iff (ill_session k st.session) (Err IllSession)
+    (iff (short_response k) (Err ShortResponse)
+    (iff (interrupts k st.session) (Err JobOpen)
+    (iff (unasked k st.session) (Err NoJob)
+    (iff (wrong_result k st.session) (Err WrongResult)
+    (Ok tt)))))
 
 run_is : (st : State) (k : Call) → Well st → call st k ≡ decided st k (in_run st k)
 unfolding judged in_run
 run_is st k g =
     call_is true st k g.wf ∙ ap (decided st k) (off _ _ _ refl
-    ∙ ap (λ (p : Permit). iff (ill_session k st.session) (Denied IllSession) (iff (short_response k) (Denied ShortResponse) p))
+    ∙ ap (λ (p : Permit). iff (ill_session k st.session) (Err IllSession) (iff (short_response k) (Err ShortResponse) p))
     (off _ _ _ (ap not (eq-eqb (length st.work) work_size g.size))))
 
 abbrev plain : Call → Bool
@@ -151,9 +151,9 @@ runs_follows ((k ⇒ t) ∷ ls) st ps g e s =
 -- ---- lines from any work area and session: all but the last are refused, and so leave the store
 
 abbrev ends : Permit → List Line → Bool
-ends Granted [] = true
-ends Granted (l ∷ ls) = false
-ends (Denied r) ls = true
+ends (Ok u) [] = true
+ends (Ok u) (l ∷ ls) = false
+ends (Err r) ls = true
 
 unfoldable tries : Bool → State → List Line → Bool
 tries w st [] = true
@@ -166,8 +166,8 @@ try_pairs w st ((k ⇒ t) ∷ ls) ps = let r = decided st k (judged w st k) in p
 
 left-store : (st : State) (k : Call) (p : Permit) (l : Line) (ls : List Line) → ends p (l ∷ ls) ≡ true → (leaves (decided st k p)).store ≡ st.store
 unfolding leaves decided denied
-left-store st k Granted l ls e = absurd (false≢true e)
-left-store st k (Denied r) l ls e = refl
+left-store st k (Ok u) l ls e = absurd (false≢true e)
+left-store st k (Err r) l ls e = refl
 
 tries_follows : (ls : List Line) (w : Bool) (st : State) (ps : List Pair) → well_formed st.store ≡ w → tries w st ls ≡ true → Same (try_pairs w st ls ps) → (follows st ls ≡ true) × Same ps
 unfolding tries try_pairs follows

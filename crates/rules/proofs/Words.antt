@@ -1,5 +1,6 @@
 -- Each command's status word is one of those that 01 lists for it (specs/Claims/Words).
 -- Assumes nothing.
+use Rattle.std.specs.Prelude.{Option, None, Some, Ok, Err}
 use mathlib.Core.Path.{◌≡◌, refl, sym, subst}
 use mathlib.Core.Bool.{Bool, true, false, not, ◌&&◌, ◌||◌}
 use mathlib.Core.List.{List, [], ◌∷◌}
@@ -8,23 +9,14 @@ use native.Mathlib.Omega.{arith}
 use lib.Dec.{leb, eqb}
 use lib.ListN.{length}
 use borrow.Author.Tests.{le-leb, leb-true, leb-false}
-use Rattle.rules.specs.declared.Challenge.{Challenge}
-use Rattle.rules.specs.declared.Challenge.TheVariants.{Unasked, Awaits}
 use Rattle.rules.specs.declared.Job.{Job}
-use Rattle.rules.specs.declared.Job.TheVariants.{Idle, Running}
 use Rattle.rules.specs.declared.Rest.{Rest}
-use Rattle.rules.specs.declared.Rest.TheVariants.{Gone, Left}
-use Rattle.rules.specs.declared.Found.{Found}
-use Rattle.rules.specs.declared.Found.TheVariants.{Value, Missing}
-use Rattle.rules.specs.declared.Asked.{Asked}
-use Rattle.rules.specs.declared.Asked.TheVariants.{Slot, NoTag}
-use Rattle.rules.specs.declared.Put.{Put}
-use Rattle.rules.specs.declared.Put.TheVariants.{Object, NoObject}
+use Rattle.rules.specs.declared.Place.{Place}
+use Rattle.rules.specs.Objects.{Put}
 use Rattle.rules.specs.declared.Admin.{Admin}
-use Rattle.rules.specs.declared.Admin.TheVariants.{GiveChallenge, Reply, NoForm}
+use Rattle.rules.specs.declared.Admin.TheVariants.{GiveChallenge, Reply}
 use Rattle.rules.specs.declared.Header.{Header}
-use Rattle.rules.specs.declared.Checked.{Checked}
-use Rattle.rules.specs.declared.Checked.TheVariants.{Passed, Failed}
+use Rattle.rules.specs.Command.{Checked}
 use Rattle.rules.specs.Bytes.{iff}
 use Rattle.rules.specs.Session.{State}
 use Rattle.rules.specs.Command.{Made, field_of, admit, parse, parse_long, admitted, check}
@@ -85,9 +77,9 @@ module _ (st : State) (h : Header) (d : List ℕ) where
   unfolding get_data
   data-words = either (Says _) _ refl (asked (asked_in d))
     where
-      asked : (a : Asked) → Tells (λ x. any_of (0x6A86 ∷ 0x6A80 ∷ 0x6A82 ∷ 0x6982 ∷ 0x9000 ∷ []) x || bytes_left x) (get_asked st h.le a).told
-      asked NoTag = unfold get_asked in refl
-      asked (Slot i) = unfold get_asked get_slot give_object in
+      asked : (a : Option ℕ) → Tells (λ x. any_of (0x6A86 ∷ 0x6A80 ∷ 0x6A82 ∷ 0x6982 ∷ 0x9000 ∷ []) x || bytes_left x) (get_asked st h.le a).told
+      asked None = unfold get_asked in refl
+      asked (Some i) = unfold get_asked get_slot give_object in
           (either (Says _) _ refl (either (Says _) _ refl (either (Says _) _ refl
           (send-words _ refl (λ n. or_right (any_of (0x6A86 ∷ 0x6A80 ∷ 0x6A82 ∷ 0x6982 ∷ 0x9000 ∷ []) (left_word n)) _ (left_word_lem n)) _ _ _))))
 
@@ -95,9 +87,9 @@ module _ (st : State) (h : Header) (d : List ℕ) where
   unfolding get_response get_rest
   response_words = either (Says _) _ refl (either (Says _) _ refl (rest st.session.rest))
     where
-      rest : (r : Rest) → Tells (λ x. any_of (0x6A86 ∷ 0x6700 ∷ 0x6985 ∷ 0x9000 ∷ []) x || bytes_left x) (get_rest st h.le r).told
-      rest Gone = refl
-      rest (Left whole k) = fetch-words _ refl (λ n. or_right (any_of (0x6A86 ∷ 0x6700 ∷ 0x6985 ∷ 0x9000 ∷ []) (left_word n)) _ (left_word_lem n)) _ _ _ _
+      rest : (r : Option Rest) → Tells (λ x. any_of (0x6A86 ∷ 0x6700 ∷ 0x6985 ∷ 0x9000 ∷ []) x || bytes_left x) (get_rest st h.le r).told
+      rest None = refl
+      rest (Some r) = fetch-words _ refl (λ n. or_right (any_of (0x6A86 ∷ 0x6700 ∷ 0x6985 ∷ 0x9000 ∷ []) (left_word n)) _ (left_word_lem n)) _ _ _ _
 
 -- ---- the commands on references
 
@@ -190,26 +182,26 @@ auth_words x = any_of (0x6A86 ∷ 0x6982 ∷ 0x6A80 ∷ 0x6985 ∷ 0x9000 ∷ []
 abbrev put_words : ℕ → Bool
 put_words x = any_of (0x6A86 ∷ 0x6982 ∷ 0x6A84 ∷ 0x6A80 ∷ 0x6A82 ∷ 0x9000 ∷ []) x
 
-replied-words : (st : State) (ch : Challenge) (r : ℕ) → Says auth_words (replied st ch r)
+replied-words : (st : State) (ch : Option ℕ) (r : ℕ) → Says auth_words (replied st ch r)
 unfolding replied
-replied-words st Unasked r = refl
-replied-words st (Awaits reply) r = either (Says auth_words) _ refl refl
+replied-words st None r = refl
+replied-words st (Some reply) r = either (Says auth_words) _ refl refl
 
-admin_words : (ch : Challenge) (st : State) (le : ℕ) (t : List ℕ) (a : Admin) → Says auth_words (auth_admin ch st le t a)
+admin_words : (ch : Option ℕ) (st : State) (le : ℕ) (t : List ℕ) (a : Option Admin) → Says auth_words (auth_admin ch st le t a)
 unfolding auth_admin opened
-admin_words ch st le t GiveChallenge = tt
-admin_words ch st le t (Reply from) = replied-words st ch _
-admin_words ch st le t NoForm = refl
+admin_words ch st le t (Some GiveChallenge) = tt
+admin_words ch st le t (Some (Reply from)) = replied-words st ch _
+admin_words ch st le t None = refl
 
-key_words : (st : State) (h : Header) (t : List ℕ) (f : Found) → Says auth_words (auth_key st h t f)
+key_words : (st : State) (h : Header) (t : List ℕ) (f : Option Place) → Says auth_words (auth_key st h t f)
 unfolding auth_key opened
-key_words st h t Missing = refl
-key_words st h t (Value from n) = tt
+key_words st h t None = refl
+key_words st h t (Some v) = tt
 
-form_words : (ch : Challenge) (h : Header) (st : State) (d : List ℕ) (f : Found) → Says auth_words (auth_form ch h st d f)
+form_words : (ch : Option ℕ) (h : Header) (st : State) (d : List ℕ) (f : Option Place) → Says auth_words (auth_form ch h st d f)
 unfolding auth_form auth_in
-form_words ch h st d Missing = refl
-form_words ch h st d (Value from n) = either (Says auth_words) _ (admin_words ch st _ _ _) (key_words st h _ _)
+form_words ch h st d None = refl
+form_words ch h st d (Some v) = either (Says auth_words) _ (admin_words ch st _ _ _) (key_words st h _ _)
 
 each_auth : (st : State) (h : Header) (n : ℕ) → auth_words (auth_each st h n) ≡ true
 unfolding auth_each
@@ -217,14 +209,14 @@ each_auth st h n =
     either (λ (x : ℕ). auth_words x ≡ true) _ refl (either (λ (x : ℕ). auth_words x ≡ true) _ refl (either (λ (x : ℕ). auth_words x ≡ true) _ refl
     (either (λ (x : ℕ). auth_words x ≡ true) _ refl (either (λ (x : ℕ). auth_words x ≡ true) _ refl refl))))
 
-auth_words_lem : (ch : Challenge) (st : State) (h : Header) (d : List ℕ) → Says auth_words (authenticate ch st h d)
+auth_words_lem : (ch : Option ℕ) (st : State) (h : Header) (d : List ℕ) → Says auth_words (authenticate ch st h d)
 unfolding authenticate auth_piece auth_whole
 auth_words_lem ch st h d = piece-words auth_words refl _ h d _ _ (each_auth _ h _) (λ s l. form_words ch h s l _)
 
-slot-words : (st : State) (d : List ℕ) (p : Put) → Says put_words (put_slot st d p)
+slot-words : (st : State) (d : List ℕ) (p : Option Put) → Says put_words (put_slot st d p)
 unfolding put_slot stored
-slot-words st d NoObject = refl
-slot-words st d (Object i from n) = either (Says put_words) _ refl (either (Says put_words) _ refl refl)
+slot-words st d None = refl
+slot-words st d (Some p) = either (Says put_words) _ refl (either (Says put_words) _ refl refl)
 
 each-put : (st : State) (h : Header) (n : ℕ) → put_words (put_each st h n) ≡ true
 unfolding put_each
@@ -237,7 +229,7 @@ put-words st h d = piece-words put_words refl _ h d _ _ (each-put _ h _) (λ s l
 
 -- ---- a command
 
-ruled-words : (st : State) (ch : Challenge) (h : Header) (d : List ℕ) → well_formed st.store ≡ true → Tells (words h.ins) (ruled st ch h d).told
+ruled-words : (st : State) (ch : Option ℕ) (h : Header) (d : List ℕ) → well_formed st.store ≡ true → Tells (words h.ins) (ruled st ch h d).told
 unfolding ruled words on_refs
 ruled-words st ch h d w =
     both _ _ _ _ _ (select-words (dropped st) h d)
@@ -251,8 +243,8 @@ ruled-words st ch h d w =
 -- ---- checks 1 to 5
 
 abbrev Fails : Checked → Type 0
-Fails (Failed sw) = check_words sw ≡ true
-Fails (Passed h) = Unit {0}
+Fails (Err sw) = check_words sw ≡ true
+Fails (Ok h) = Unit {0}
 
 parse_fails : (c : List ℕ) → Fails (parse c)
 unfolding parse parse_long
@@ -260,31 +252,31 @@ parse_fails c = either Fails _ refl (either Fails _ tt (either Fails _ tt (eithe
 
 admit_fails : (air : Bool) (x : Checked) → Fails x → Fails (admitted air x)
 unfolding admitted admit
-admit_fails air (Failed sw) f = f
-admit_fails air (Passed h) f = either Fails _ refl (either Fails _ refl (either Fails _ refl (either Fails _ refl (either Fails _ refl tt))))
+admit_fails air (Err sw) f = f
+admit_fails air (Ok h) f = either Fails _ refl (either Fails _ refl (either Fails _ refl (either Fails _ refl (either Fails _ refl tt))))
 
-check_fails : (air : Bool) (c : List ℕ) (sw : ℕ) → check air c ≡ Failed sw → check_words sw ≡ true
+check_fails : (air : Bool) (c : List ℕ) (sw : ℕ) → check air c ≡ Err sw → check_words sw ≡ true
 unfolding check
 check_fails air c sw e = subst Fails e (admit_fails air (parse c) (parse_fails c))
 
 -- ---- the result of a job
 
-result_words_lem : (st : State) (j : Job) (failed : Bool) (r : List ℕ) → Says result_words (finished st j failed r)
+result_words_lem : (st : State) (j : Option Job) (failed : Bool) (r : List ℕ) → Says result_words (finished st j failed r)
 unfolding finished answered challenged
-result_words_lem st Idle failed r = refl
-result_words_lem st (Running key alg le) failed r =
+result_words_lem st None failed r = refl
+result_words_lem st (Some j) failed r =
     either (Says result_words) _ refl (either (Says result_words) _
     (send-words result_words refl (λ n. or_right (eqb (left_word n) 0x6F00 || eqb (left_word n) 0x9000) _ (left_word_lem n)) _ _ _)
     (send-words result_words refl (λ n. or_right (eqb (left_word n) 0x6F00 || eqb (left_word n) 0x9000) _ (left_word_lem n)) _ _ _))
 
 -- ---- the claim
 
-told-failed : (st : State) (c : List ℕ) (sw : ℕ) → check st.session.contactless c ≡ Failed sw → Tells check_words (command st c).told
+told-failed : (st : State) (c : List ℕ) (sw : ℕ) → check st.session.contactless c ≡ Err sw → Tells check_words (command st c).told
 unfolding command obeyed
 told-failed st c sw e =
     subst (λ (x : Checked). Tells check_words (obeyed (calm st) st.session.challenge c x).told) (sym e) (check_fails _ c sw e)
 
-told-passed : (st : State) (c : List ℕ) (h : Header) → well_formed st.store ≡ true → check st.session.contactless c ≡ Passed h → Tells (words h.ins) (command st c).told
+told-passed : (st : State) (c : List ℕ) (h : Header) → well_formed st.store ≡ true → check st.session.contactless c ≡ Ok h → Tells (words h.ins) (command st c).told
 unfolding command obeyed calm
 told-passed st c h w e =
     subst (λ (x : Checked). Tells (words h.ins) (obeyed (calm st) st.session.challenge c x).told) (sym e) (ruled-words (calm st) st.session.challenge h (field_of c h) w)

@@ -6,18 +6,18 @@
 --   ber_length n         the length n as it is written
 --   announced b          the number of bytes of a length whose first byte is b; 0 where no length starts so
 --   length_value s at k  the length that stands in the k bytes of s from the place `at` on
+--   with_next n next      the length n, and the place after it
 --   length_at s at       the length read at a place, and the place after it
+--   place from n          n bytes from a place on
 --   object_at s at tag   the object with that tag read at a place: where its value starts and how long it is
 --   last_at s at tag     the same of an object with which s ends
 --   tlv tag v            the object with that tag and value as it is written
 --
 -- Assumes nothing.
-use Rattle.std.specs.Prelude.{◌||◌, List, [], ◌∷◌, ◌++◌, ℕ, ◌+◌, ◌-◌, ltb, leb, eqb, length, get_or}
+use Rattle.std.specs.Prelude.{Option, Some, None, ◌||◌, List, [], ◌∷◌, ◌++◌, ℕ, ◌+◌, ◌-◌, ltb, leb, eqb, length, get_or}
 use Rattle.std.specs.Int.Count.{count_leading_zeros}
 use Rattle.rules.specs.declared.Length.{Length}
-use Rattle.rules.specs.declared.Length.TheVariants.{Is, Bad}
-use Rattle.rules.specs.declared.Found.{Found}
-use Rattle.rules.specs.declared.Found.TheVariants.{Value, Missing}
+use Rattle.rules.specs.declared.Place.{Place}
 use Rattle.rules.specs.Bytes.{iff, word, be16}
 
 -- ---- lengths
@@ -44,33 +44,39 @@ announced b = iff (ltb b 0x80) 1 (iff (eqb b 0x81) 2 (iff (eqb b 0x82) 3 0))
 unfoldable pub length_value : List ℕ → ℕ → ℕ → ℕ
 length_value s at k = iff (eqb k 1) (get_or s at 0) (iff (eqb k 2) (get_or s (at + 1) 0) (be16 s (at + 1)))
 
--- only the shortest form is taken: a length n in k bytes is read where n takes k bytes
-unfoldable pub length_in : List ℕ → ℕ → ℕ → Length
-length_in s at k =
-    iff (eqb k 0 || ltb (length s) (at + k)) Bad
-    (iff (eqb (length_bytes (length_value s at k)) k) (Is (length_value s at k) (at + k)) Bad)
+abbrev pub with_next : ℕ → ℕ → Length
+with_next n next = record { len = n; next = next }
 
-unfoldable pub length_at : List ℕ → ℕ → Length
+-- only the shortest form is taken: a length n in k bytes is read where n takes k bytes
+unfoldable pub length_in : List ℕ → ℕ → ℕ → Option Length
+length_in s at k =
+    iff (eqb k 0 || ltb (length s) (at + k)) None
+    (iff (eqb (length_bytes (length_value s at k)) k) (Some (with_next (length_value s at k) (at + k))) None)
+
+unfoldable pub length_at : List ℕ → ℕ → Option Length
 length_at s at = length_in s at (announced (get_or s at 0))
 
 -- ---- objects: a value read is a stretch of the command itself, given by its place and its length
 
--- a value of that length, if s holds all of it
-unfoldable pub value_from : List ℕ → Length → Found
-value_from s Bad = Missing
-value_from s (Is n from) = iff (ltb (length s) (from + n)) Missing (Value from n)
+abbrev pub place : ℕ → ℕ → Place
+place from n = record { from = from; len = n }
 
-unfoldable pub object_at : List ℕ → ℕ → ℕ → Found
+-- a value of that length, if s holds all of it
+unfoldable pub value_from : List ℕ → Option Length → Option Place
+value_from s None = None
+value_from s (Some l) = iff (ltb (length s) (l.next + l.len)) None (Some (place l.next l.len))
+
+unfoldable pub object_at : List ℕ → ℕ → ℕ → Option Place
 object_at s at tag =
-    iff (leb (length s) at) Missing
-    (iff (eqb (get_or s at 0) tag) (value_from s (length_at s (at + 1))) Missing)
+    iff (leb (length s) at) None
+    (iff (eqb (get_or s at 0) tag) (value_from s (length_at s (at + 1))) None)
 
 -- "and no more"
-unfoldable pub ending : List ℕ → Found → Found
-ending s Missing = Missing
-ending s (Value from n) = iff (eqb (from + n) (length s)) (Value from n) Missing
+unfoldable pub ending : List ℕ → Option Place → Option Place
+ending s None = None
+ending s (Some v) = iff (eqb (v.from + v.len) (length s)) (Some v) None
 
-unfoldable pub last_at : List ℕ → ℕ → ℕ → Found
+unfoldable pub last_at : List ℕ → ℕ → ℕ → Option Place
 last_at s at tag = ending s (object_at s at tag)
 
 unfoldable pub tlv : ℕ → List ℕ → List ℕ

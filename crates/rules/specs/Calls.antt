@@ -10,23 +10,19 @@
 --   call st k             what a call comes to
 --
 -- Assumes nothing.
-use Rattle.std.specs.Prelude.{Bool, false, not, ◌&&◌, List, [], ◌++◌, ℕ, ◌+◌, ltb, eqb, length}
-use Rattle.rules.specs.declared.Challenge.{Challenge}
+use Rattle.std.specs.Prelude.{Option, Ok, Err, Bool, false, not, ◌&&◌, List, [], ◌++◌, ℕ, ◌+◌, ltb, eqb, length}
 use Rattle.rules.specs.declared.Header.{Header}
-use Rattle.rules.specs.declared.Checked.{Checked}
-use Rattle.rules.specs.declared.Checked.TheVariants.{Passed, Failed}
 use Rattle.rules.specs.declared.Session.{Session}
 use Rattle.rules.specs.declared.Refusal.{Refusal}
 use Rattle.rules.specs.declared.Refusal.TheVariants.{IllStore, IllSession, ShortResponse, WrongWork, JobOpen, NoJob, WrongResult}
-use Rattle.rules.specs.declared.Permit.{Permit}
-use Rattle.rules.specs.declared.Permit.TheVariants.{Granted, Denied}
 use Rattle.rules.specs.declared.Answer.{Answer}
 use Rattle.rules.specs.declared.Answer.TheVariants.{PoweredOn, Response, JobOpened, Refused}
 use Rattle.rules.specs.declared.Reply.{Reply}
 use Rattle.rules.specs.Bytes.{iff, splice, zeros, word}
+use Rattle.rules.specs.Fault.{Permit}
 use Rattle.rules.specs.Store.{work_size, response_size, well_formed}
 use Rattle.rules.specs.Session.{State, cleared, possible, job_open}
-use Rattle.rules.specs.Command.{check, field_of, Told, responds, opens_job, Step, Wrote, nothing, Made, says}
+use Rattle.rules.specs.Command.{Checked, check, field_of, Told, responds, opens_job, Step, Wrote, nothing, Made, says}
 use Rattle.rules.specs.Held.{calm, dropped}
 use Rattle.rules.specs.Pin.{verify, change, reset, refs, on_refs}
 use Rattle.rules.specs.Objects.{select, get_data, get_response, put_data}
@@ -36,7 +32,7 @@ use Rattle.rules.specs.Keys.{authenticate, result_fits, finished}
 
 -- check 6: the command's own rules. Every command drops the rest of a response, except a GET RESPONSE that hands part of it out;
 -- only 87 and DB go on with a chain
-unfoldable pub ruled : State → Challenge → Header → List ℕ → Made
+unfoldable pub ruled : State → Option ℕ → Header → List ℕ → Made
 ruled st ch h d =
     iff (eqb h.ins 0xA4) (select (dropped st) h d)
     (iff (eqb h.ins 0xCB) (get_data (dropped st) h d)
@@ -48,9 +44,9 @@ ruled st ch h d =
     (put_data st h d)))))))
 
 -- a command that fails checks 1 to 5 drops what is held
-unfoldable pub obeyed : State → Challenge → List ℕ → Checked → Made
-obeyed st ch c (Failed sw) = says (dropped st) sw
-obeyed st ch c (Passed h) = ruled st ch h (field_of c h)
+unfoldable pub obeyed : State → Option ℕ → List ℕ → Checked → Made
+obeyed st ch c (Err sw) = says (dropped st) sw
+obeyed st ch c (Ok h) = ruled st ch h (field_of c h)
 
 -- every command drops a held challenge; 87 may compare it first
 unfoldable pub command : State → List ℕ → Made
@@ -102,14 +98,14 @@ wrong_result (finishes resp failed r) ss = not failed && not (result_fits ss.job
 
 unfoldable pub permit : State → Call → Permit
 permit st k =
-    iff (not (well_formed st.store)) (Denied IllStore)
-    (iff (ill_session k st.session) (Denied IllSession)
-    (iff (short_response k) (Denied ShortResponse)
-    (iff (not (eqb (length st.work) work_size)) (Denied WrongWork)
-    (iff (interrupts k st.session) (Denied JobOpen)
-    (iff (unasked k st.session) (Denied NoJob)
-    (iff (wrong_result k st.session) (Denied WrongResult)
-    Granted))))))
+    iff (not (well_formed st.store)) (Err IllStore)
+    (iff (ill_session k st.session) (Err IllSession)
+    (iff (short_response k) (Err ShortResponse)
+    (iff (not (eqb (length st.work) work_size)) (Err WrongWork)
+    (iff (interrupts k st.session) (Err JobOpen)
+    (iff (unasked k st.session) (Err NoJob)
+    (iff (wrong_result k st.session) (Err WrongResult)
+    (Ok tt)))))))
 
 -- ---- all that is seen of a call
 
@@ -181,8 +177,8 @@ denied st k r = record {
 }
 
 unfoldable pub decided : State → Call → Permit → Result
-decided st k Granted = granted st k
-decided st k (Denied r) = denied st k r
+decided st k (Ok u) = granted st k
+decided st k (Err r) = denied st k r
 
 unfoldable pub call : State → Call → Result
 call st k = decided st k (permit st k)

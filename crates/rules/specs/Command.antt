@@ -1,5 +1,6 @@
 -- Command: from bytes to a command (01, "From bytes to a command"), and what a command comes to.
 --
+--   Checked               a command that passes a check, or the status word that ends it
 --   le_of b               the expected length that a byte says
 --   header c lc le        the command whose bytes are c, with that many data bytes and that expected length
 --   field_of c h          its data
@@ -13,12 +14,14 @@
 --   tells st t · says st sw    a command that tells t, or a status word alone, and leaves the state st
 --
 -- Assumes nothing.
-use Rattle.std.specs.Prelude.{Bool, not, ◌&&◌, ◌||◌, List, [], ℕ, ◌+◌, ltb, eqb, length, get_or}
+use Rattle.std.specs.Prelude.{Result, Ok, Err, Bool, not, ◌&&◌, ◌||◌, List, [], ℕ, ◌+◌, ltb, eqb, length, get_or}
 use Rattle.rules.specs.declared.Header.{Header}
-use Rattle.rules.specs.declared.Checked.{Checked}
-use Rattle.rules.specs.declared.Checked.TheVariants.{Passed, Failed}
 use Rattle.rules.specs.Bytes.{iff, part}
 use Rattle.rules.specs.Session.{State}
+
+-- a command that passes a check, or the status word that ends it
+abbrev pub Checked : Type 0
+Checked = Result Header ℕ
 
 -- ---- check 1: the length
 
@@ -35,17 +38,17 @@ field_of c h = part c 5 h.lc
 -- more than five bytes: Lc (1 to 255), data, perhaps Le
 unfoldable pub parse_long : List ℕ → ℕ → Checked
 parse_long c lc =
-    iff (eqb lc 0) (Failed 0x6700)
-    (iff (eqb (length c) (5 + lc)) (Passed (header c lc 256))
-    (iff (eqb (length c) (6 + lc)) (Passed (header c lc (le_of (get_or c (5 + lc) 0))))
-    (Failed 0x6700)))
+    iff (eqb lc 0) (Err 0x6700)
+    (iff (eqb (length c) (5 + lc)) (Ok (header c lc 256))
+    (iff (eqb (length c) (6 + lc)) (Ok (header c lc (le_of (get_or c (5 + lc) 0))))
+    (Err 0x6700)))
 
 -- length 4: header only; length 5: header and Le
 unfoldable pub parse : List ℕ → Checked
 parse c =
-    iff (ltb (length c) 4 || ltb 261 (length c)) (Failed 0x6700)
-    (iff (eqb (length c) 4) (Passed (header c 0 256))
-    (iff (eqb (length c) 5) (Passed (header c 0 (le_of (get_or c 4 0))))
+    iff (ltb (length c) 4 || ltb 261 (length c)) (Err 0x6700)
+    (iff (eqb (length c) 4) (Ok (header c 0 256))
+    (iff (eqb (length c) 5) (Ok (header c 0 (le_of (get_or c 4 0))))
     (parse_long c (get_or c 4 0))))
 
 -- ---- checks 2 to 5
@@ -63,16 +66,16 @@ contact_only ins = eqb ins 0x20 || eqb ins 0x24 || eqb ins 0x2C || eqb ins 0xDB
 
 unfoldable pub admit : Bool → Header → Checked
 admit air h =
-    iff (eqb h.cla 0x0C || eqb h.cla 0x1C) (Failed 0x6882)
-    (iff (not (eqb h.cla 0x00 || eqb h.cla 0x10)) (Failed 0x6E00)
-    (iff (not (known h.ins)) (Failed 0x6D00)
-    (iff (eqb h.cla 0x10 && not (chains h.ins)) (Failed 0x6884)
-    (iff (contact_only h.ins && air) (Failed 0x6A81)
-    (Passed h)))))
+    iff (eqb h.cla 0x0C || eqb h.cla 0x1C) (Err 0x6882)
+    (iff (not (eqb h.cla 0x00 || eqb h.cla 0x10)) (Err 0x6E00)
+    (iff (not (known h.ins)) (Err 0x6D00)
+    (iff (eqb h.cla 0x10 && not (chains h.ins)) (Err 0x6884)
+    (iff (contact_only h.ins && air) (Err 0x6A81)
+    (Ok h)))))
 
 unfoldable pub admitted : Bool → Checked → Checked
-admitted air (Failed sw) = Failed sw
-admitted air (Passed h) = admit air h
+admitted air (Err sw) = Err sw
+admitted air (Ok h) = admit air h
 
 unfoldable pub check : Bool → List ℕ → Checked
 check air c = admitted air (parse c)

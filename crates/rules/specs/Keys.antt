@@ -12,20 +12,16 @@
 --   finished st j failed r    the job j is reported as failed, or as done with the result r
 --
 -- Assumes nothing.
-use Rattle.std.specs.Prelude.{Bool, true, false, not, ◌&&◌, ◌||◌, List, [], ℕ, ◌+◌, ltb, leb, eqb, length, take, get_or}
-use Rattle.rules.specs.declared.Challenge.{Challenge}
-use Rattle.rules.specs.declared.Challenge.TheVariants.{Unasked, Awaits}
+use Rattle.std.specs.Prelude.{Option, Some, None, Bool, true, false, not, ◌&&◌, ◌||◌, List, [], ℕ, ◌+◌, ltb, leb, eqb, length, take, get_or}
 use Rattle.rules.specs.declared.Job.{Job}
-use Rattle.rules.specs.declared.Job.TheVariants.{Idle, Running}
-use Rattle.rules.specs.declared.Found.{Found}
-use Rattle.rules.specs.declared.Found.TheVariants.{Value, Missing}
+use Rattle.rules.specs.declared.Place.{Place}
 use Rattle.rules.specs.declared.Admin.{Admin}
-use Rattle.rules.specs.declared.Admin.TheVariants.{GiveChallenge, Reply, NoForm}
+use Rattle.rules.specs.declared.Admin.TheVariants.{GiveChallenge, Reply}
 use Rattle.rules.specs.declared.Header.{Header}
 use Rattle.rules.specs.Bytes.{iff, part, be64}
 use Rattle.rules.specs.Ber.{object_at, last_at, tlv}
 use Rattle.rules.specs.Store.{algorithm_of}
-use Rattle.rules.specs.Session.{State, in_session, with_admin, with_challenge, with_job, pin_given, chain_length, auth_total}
+use Rattle.rules.specs.Session.{State, in_session, with_admin, with_challenge, with_job, job_of, pin_given, chain_length, auth_total}
 use Rattle.rules.specs.Command.{Made, opens_job, tells, says}
 use Rattle.rules.specs.Held.{send, based, piece}
 
@@ -50,20 +46,20 @@ auth_each st h n =
 
 -- ---- forms
 
-unfoldable pub contents : List ℕ → Found
+unfoldable pub contents : List ℕ → Option Place
 contents d = last_at d 0 0x7C
 
 -- 81 empty, and no more
-unfoldable pub challenge_in : Found → Admin
-challenge_in Missing = NoForm
-challenge_in (Value from n) = iff (eqb n 0) GiveChallenge NoForm
+unfoldable pub challenge_in : Option Place → Option Admin
+challenge_in None = None
+challenge_in (Some v) = iff (eqb v.len 0) (Some GiveChallenge) None
 
 -- 82 and eight bytes, and no more
-unfoldable pub reply_in : Found → Admin
-reply_in Missing = NoForm
-reply_in (Value from n) = iff (eqb n 8) (Reply from) NoForm
+unfoldable pub reply_in : Option Place → Option Admin
+reply_in None = None
+reply_in (Some v) = iff (eqb v.len 8) (Some (Reply v.from)) None
 
-unfoldable pub admin_form : List ℕ → Admin
+unfoldable pub admin_form : List ℕ → Option Admin
 admin_form t = iff (eqb (get_or t 0 0) 0x81) (challenge_in (last_at t 0 0x81)) (reply_in (last_at t 0 0x82))
 
 -- 9D with 11 takes a point (85) instead of data (81)
@@ -78,58 +74,58 @@ data_ok key alg t from n =
     (eqb n 32))
 
 -- the data, which end the template
-unfoldable pub data_in : ℕ → ℕ → List ℕ → Found → Found
-data_in key alg t Missing = Missing
-data_in key alg t (Value from n) =
-    iff (data_ok key alg t from n) (Value from n) Missing
+unfoldable pub data_in : ℕ → ℕ → List ℕ → Option Place → Option Place
+data_in key alg t None = None
+data_in key alg t (Some v) =
+    iff (data_ok key alg t v.from v.len) (Some v) None
 
 -- behind 82 empty
-unfoldable pub data_after : ℕ → ℕ → List ℕ → Found → Found
-data_after key alg t Missing = Missing
-data_after key alg t (Value from n) =
-    iff (eqb n 0) (data_in key alg t (last_at t from (data_tag key alg))) Missing
+unfoldable pub data_after : ℕ → ℕ → List ℕ → Option Place → Option Place
+data_after key alg t None = None
+data_after key alg t (Some v) =
+    iff (eqb v.len 0) (data_in key alg t (last_at t v.from (data_tag key alg))) None
 
-unfoldable pub key_form : ℕ → ℕ → List ℕ → Found
+unfoldable pub key_form : ℕ → ℕ → List ℕ → Option Place
 key_form key alg t = data_after key alg t (object_at t 0 0x82)
 
 -- ---- the last piece
 
 -- no challenge held 6985; equal to the expected reply, administrator TRUE, 9000; else FALSE, 6982
-unfoldable pub replied : State → Challenge → ℕ → Made
-replied st Unasked r = says st 0x6985
-replied st (Awaits reply) r =
+unfoldable pub replied : State → Option ℕ → ℕ → Made
+replied st None r = says st 0x6985
+replied st (Some reply) r =
     iff (eqb reply r) (says (in_session st (with_admin st.session true)) 0x9000)
     (says (in_session st (with_admin st.session false)) 0x6982)
 
 -- a job is opened: its key, its algorithm and the expected length are kept
 unfoldable pub opened : State → ℕ → ℕ → ℕ → List ℕ → Made
-opened st key alg le d = tells (in_session st (with_job st.session (Running key alg le))) (opens_job key alg d)
+opened st key alg le d = tells (in_session st (with_job st.session (Some (job_of key alg le)))) (opens_job key alg d)
 
-unfoldable pub auth_admin : Challenge → State → ℕ → List ℕ → Admin → Made
-auth_admin ch st le t GiveChallenge = opened st 0x9B 0x00 le []
-auth_admin ch st le t (Reply from) = replied st ch (be64 t from)
-auth_admin ch st le t NoForm = says st 0x6A80
+unfoldable pub auth_admin : Option ℕ → State → ℕ → List ℕ → Option Admin → Made
+auth_admin ch st le t (Some GiveChallenge) = opened st 0x9B 0x00 le []
+auth_admin ch st le t (Some (Reply from)) = replied st ch (be64 t from)
+auth_admin ch st le t None = says st 0x6A80
 
-unfoldable pub auth_key : State → Header → List ℕ → Found → Made
-auth_key st h t Missing = says st 0x6A80
-auth_key st h t (Value from n) = opened st h.p2 h.p1 h.le (part t from n)
+unfoldable pub auth_key : State → Header → List ℕ → Option Place → Made
+auth_key st h t None = says st 0x6A80
+auth_key st h t (Some v) = opened st h.p2 h.p1 h.le (part t v.from v.len)
 
-unfoldable pub auth_in : Challenge → Header → State → List ℕ → Made
+unfoldable pub auth_in : Option ℕ → Header → State → List ℕ → Made
 auth_in ch h st t =
     iff (eqb h.p2 0x9B) (auth_admin ch st h.le t (admin_form t))
     (auth_key st h t (key_form h.p2 h.p1 t))
 
-unfoldable pub auth_form : Challenge → Header → State → List ℕ → Found → Made
-auth_form ch h st d Missing = says st 0x6A80
-auth_form ch h st d (Value from n) = auth_in ch h st (part d from n)
+unfoldable pub auth_form : Option ℕ → Header → State → List ℕ → Option Place → Made
+auth_form ch h st d None = says st 0x6A80
+auth_form ch h st d (Some v) = auth_in ch h st (part d v.from v.len)
 
-unfoldable pub auth_whole : Challenge → Header → State → List ℕ → Made
+unfoldable pub auth_whole : Option ℕ → Header → State → List ℕ → Made
 auth_whole ch h st d = auth_form ch h st d (contents d)
 
-unfoldable pub auth_piece : Challenge → State → Header → List ℕ → Made
+unfoldable pub auth_piece : Option ℕ → State → Header → List ℕ → Made
 auth_piece ch st h d = piece st h d (auth_each st h (chain_length st.session.chain + length d)) (auth_whole ch h)
 
-unfoldable pub authenticate : Challenge → State → Header → List ℕ → Made
+unfoldable pub authenticate : Option ℕ → State → Header → List ℕ → Made
 authenticate ch st h d = auth_piece ch (based st h) h d
 
 -- ---- jobs
@@ -142,14 +138,14 @@ result_ok key alg r =
     (iff (eqb key 0x9D) (eqb (length r) 32)
     (leb 1 (length r) && leb (length r) 72)))
 
-unfoldable pub result_fits : Job → List ℕ → Bool
-result_fits Idle r = false
-result_fits (Running key alg le) r = result_ok key alg r
+unfoldable pub result_fits : Option Job → List ℕ → Bool
+result_fits None r = false
+result_fits (Some j) r = result_ok j.key j.alg r
 
 -- the 16 result bytes are the challenge and the expected reply, and the answer is 7C{81 challenge}
 unfoldable pub challenged : State → ℕ → List ℕ → Made
 challenged st le r =
-    send (in_session st (with_challenge st.session (Awaits (be64 r 8)))) le (tlv 0x7C (tlv 0x81 (take 8 r)))
+    send (in_session st (with_challenge st.session (Some (be64 r 8)))) le (tlv 0x7C (tlv 0x81 (take 8 r)))
 
 -- reported as failed: 6F00; else the result is answered as 7C{82 result}
 unfoldable pub answered : State → ℕ → ℕ → Bool → List ℕ → Made
@@ -159,7 +155,7 @@ answered st key le failed r =
     (send st le (tlv 0x7C (tlv 0x82 r))))
 
 -- with no job open the call is refused, so what stands in that row is never met
-unfoldable pub finished : State → Job → Bool → List ℕ → Made
-finished st Idle failed r = says st 0x6F00
-finished st (Running key alg le) failed r =
-    answered (in_session st (with_job st.session Idle)) key le failed r
+unfoldable pub finished : State → Option Job → Bool → List ℕ → Made
+finished st None failed r = says st 0x6F00
+finished st (Some j) failed r =
+    answered (in_session st (with_job st.session None)) j.key j.le failed r

@@ -1,4 +1,5 @@
 pub mod Bytes
+pub mod Fault
 pub mod Ber
 pub mod Reference
 pub mod Store

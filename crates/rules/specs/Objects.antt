@@ -7,21 +7,16 @@
 --   get_slot st le i      GET DATA of slot i
 --   get_data st h d       GET DATA
 --   get_response st h d   GET RESPONSE
+--   Put                   what the data of a whole PUT DATA say: a slot, and where the value stands
 --   put_form d            what the data of a whole PUT DATA say
 --   put_each st h n       what the rules for each piece of PUT DATA say, n bytes in all
 --   put_whole st d        PUT DATA at the last piece
 --   put_data st h d       PUT DATA
 --
 -- Assumes nothing.
-use Rattle.std.specs.Prelude.{not, ◌&&◌, ◌||◌, List, [], ◌∷◌, ◌++◌, ℕ, ◌+◌, ltb, eqb, length, take, get_or}
+use Rattle.std.specs.Prelude.{Option, Some, None, not, ◌&&◌, ◌||◌, List, [], ◌∷◌, ◌++◌, ℕ, ◌+◌, ltb, eqb, length, take, get_or}
 use Rattle.rules.specs.declared.Rest.{Rest}
-use Rattle.rules.specs.declared.Rest.TheVariants.{Gone, Left}
-use Rattle.rules.specs.declared.Found.{Found}
-use Rattle.rules.specs.declared.Found.TheVariants.{Value, Missing}
-use Rattle.rules.specs.declared.Asked.{Asked}
-use Rattle.rules.specs.declared.Asked.TheVariants.{Slot, NoTag}
-use Rattle.rules.specs.declared.Put.{Put}
-use Rattle.rules.specs.declared.Put.TheVariants.{Object, NoObject}
+use Rattle.rules.specs.declared.Place.{Place}
 use Rattle.rules.specs.declared.Header.{Header}
 use Rattle.rules.specs.Bytes.{iff, same_bytes, part, be24}
 use Rattle.rules.specs.Ber.{object_at, last_at, tlv}
@@ -48,14 +43,14 @@ select st h d =
 -- ---- GET DATA
 
 -- 5C 03 and three bytes, or 5C 01 7E, and no more
-unfoldable pub tag_in : List ℕ → Found → Asked
-tag_in d Missing = NoTag
-tag_in d (Value from n) =
-    iff (eqb n 3) (Slot (slot_named 3 (be24 d from)))
-    (iff (eqb n 1 && eqb (get_or d from 0) 0x7E) (Slot discovery)
-    NoTag)
+unfoldable pub tag_in : List ℕ → Option Place → Option ℕ
+tag_in d None = None
+tag_in d (Some v) =
+    iff (eqb v.len 3) (Some (slot_named 3 (be24 d v.from)))
+    (iff (eqb v.len 1 && eqb (get_or d v.from 0) 0x7E) (Some discovery)
+    None)
 
-unfoldable pub asked_in : List ℕ → Asked
+unfoldable pub asked_in : List ℕ → Option ℕ
 asked_in d = tag_in d (last_at d 0 0x5C)
 
 -- tag 53 (7E for Discovery)
@@ -72,9 +67,9 @@ get_slot st le i =
     (iff (not (readable st.session i)) (says st 0x6982)
     (give_object st le i (object_of st.store i)))
 
-unfoldable pub get_asked : State → ℕ → Asked → Made
-get_asked st le NoTag = says st 0x6A80
-get_asked st le (Slot i) = get_slot st le i
+unfoldable pub get_asked : State → ℕ → Option ℕ → Made
+get_asked st le None = says st 0x6A80
+get_asked st le (Some i) = get_slot st le i
 
 unfoldable pub get_data : State → Header → List ℕ → Made
 get_data st h d =
@@ -84,9 +79,9 @@ get_data st h d =
 -- ---- GET RESPONSE
 
 -- nothing held: 6985; else up to Le more bytes
-unfoldable pub get_rest : State → ℕ → Rest → Made
-get_rest st le Gone = says (dropped st) 0x6985
-get_rest st le (Left whole fetched) = fetch st le whole fetched
+unfoldable pub get_rest : State → ℕ → Option Rest → Made
+get_rest st le None = says (dropped st) 0x6985
+get_rest st le (Some r) = fetch st le r.whole r.fetched
 
 -- any GET RESPONSE that hands nothing out drops the rest
 unfoldable pub get_response : State → Header → List ℕ → Made
@@ -97,19 +92,27 @@ get_response st h d =
 
 -- ---- PUT DATA
 
+-- what the data of a whole PUT DATA say: a slot (`slots` where its tag is not in the table), and where the value stands
+pub record Put : Type 0 where
+  pub slot : ℕ
+  pub value : Place
+
+abbrev pub put_of : ℕ → Place → Put
+put_of i v = record { slot = i; value = v }
+
 -- the value of the last object is what the slot takes
-unfoldable pub put_in : ℕ → Found → Put
-put_in i Missing = NoObject
-put_in i (Value from n) = Object i from n
+unfoldable pub put_in : ℕ → Option Place → Option Put
+put_in i None = None
+put_in i (Some v) = Some (put_of i v)
 
 -- 5C 03 tag, then 53, length, value, and no more
-unfoldable pub put_tagged : List ℕ → Found → Put
-put_tagged d Missing = NoObject
-put_tagged d (Value from n) =
-    iff (eqb n 3) (put_in (slot_named 3 (be24 d from)) (last_at d (from + n) 0x53)) NoObject
+unfoldable pub put_tagged : List ℕ → Option Place → Option Put
+put_tagged d None = None
+put_tagged d (Some v) =
+    iff (eqb v.len 3) (put_in (slot_named 3 (be24 d v.from)) (last_at d (v.from + v.len) 0x53)) None
 
 -- or 7E, length, value
-unfoldable pub put_form : List ℕ → Put
+unfoldable pub put_form : List ℕ → Option Put
 put_form d =
     iff (eqb (get_or d 0 0) 0x7E) (put_in discovery (last_at d 0 0x7E))
     (put_tagged d (object_at d 0 0x5C))
@@ -123,12 +126,12 @@ stored st i v = record {
 }
 
 -- other form 6A80; tag not in the table 6A82; over capacity 6A84; else the slot takes the value
-unfoldable pub put_slot : State → List ℕ → Put → Made
-put_slot st d NoObject = says st 0x6A80
-put_slot st d (Object i from n) =
-    iff (not (ltb i slots)) (says st 0x6A82)
-    (iff (not (takes st.store i n)) (says st 0x6A84)
-    (stored st i (part d from n)))
+unfoldable pub put_slot : State → List ℕ → Option Put → Made
+put_slot st d None = says st 0x6A80
+put_slot st d (Some p) =
+    iff (not (ltb p.slot slots)) (says st 0x6A82)
+    (iff (not (takes st.store p.slot p.value.len)) (says st 0x6A84)
+    (stored st p.slot (part d p.value.from p.value.len)))
 
 unfoldable pub put_whole : State → List ℕ → Made
 put_whole st d = put_slot st d (put_form d)

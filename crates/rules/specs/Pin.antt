@@ -22,6 +22,7 @@ use Rattle.std.specs.Prelude.{Bool, true, false, not, ◌&&◌, ◌||◌, List, 
 use Rattle.rules.specs.declared.Header.{Header}
 use Rattle.rules.specs.declared.Judged.{Judged}
 use Rattle.rules.specs.Bytes.{iff}
+use Rattle.rules.specs.Fault.{status_of}
 use Rattle.rules.specs.Reference.{Reference, pin_form, puk_form, none_left, matches, charged, restored, renewed, reference_at, put_reference}
 use Rattle.rules.specs.Store.{pin_at, puk_at}
 use Rattle.rules.specs.Session.{State, state, with_pin, pin_given}
@@ -162,14 +163,15 @@ unfoldable pub refs_onto : List ℕ → Refs → List ℕ
 refs_onto s r = put_reference (put_reference s pin_at r.pin) puk_at r.puk
 
 pub record Judgement : Type 0 where
-  pub judged : Judged
+  pub sw : ℕ
+  pub given : Bool
   pub store : List ℕ
 
 abbrev pub judgement : Judged → List ℕ → Judgement
-judgement j s = record { judged = j; store = s }
+judgement j s = record { sw = status_of j.said; given = j.given; store = s }
 
 unfoldable pub judged_on : List ℕ → Bool → Said → Judgement
-judged_on s b x = judgement (record { sw = x.sw; given = x.given }) (refs_onto s (made (refs_in s b) x.steps))
+judged_on s b x = record { sw = x.sw; given = x.given; store = refs_onto s (made (refs_in s b) x.steps) }
 
 unfoldable pub refs : State → Refs
 refs st = refs_in st.store (pin_given st.session)

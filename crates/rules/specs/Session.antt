@@ -5,6 +5,8 @@
 --   holding ss c r        the session with that chain and that rest
 --   pin_given ss          the PIN status is TRUE
 --   readable ss i         the object in slot i may be read now
+--   rest_of whole fetched  the rest of a response of that length, of which so much is fetched
+--   job_of key alg le     a job with that key, that algorithm and that expected length
 --   chain_length c        the bytes of a chain
 --   whole_length r        the length of a response of which a rest is held
 --   held_length ss        the number of bytes that the work area holds
@@ -15,18 +17,15 @@
 --   storing st s · in_session st ss   a state with one of the three replaced
 --
 -- Assumes nothing.
-use Rattle.std.specs.Prelude.{Bool, true, false, not, ◌&&◌, ◌||◌, List, [], ◌∷◌, ℕ, ◌+◌, ltb, leb, eqb, get_or}
+use Rattle.std.specs.Prelude.{Option, Some, None, is_some, Bool, true, false, not, ◌&&◌, ◌||◌, List, [], ◌∷◌, ℕ, ◌+◌, ltb, leb, eqb, get_or}
 use Rattle.rules.specs.declared.Chain.{Chain}
-use Rattle.rules.specs.declared.Chain.TheVariants.{Shut, Open}
 use Rattle.rules.specs.declared.Rest.{Rest}
-use Rattle.rules.specs.declared.Rest.TheVariants.{Gone, Left}
-use Rattle.rules.specs.declared.Challenge.{Challenge}
-use Rattle.rules.specs.declared.Challenge.TheVariants.{Unasked, Awaits}
 use Rattle.rules.specs.declared.Job.{Job}
-use Rattle.rules.specs.declared.Job.TheVariants.{Idle, Running}
 use Rattle.rules.specs.declared.Session.{Session}
 use Rattle.rules.specs.Bytes.{iff, all_true}
-use Rattle.rules.specs.Store.{work_size, Access, always, PIN, never, contact_read, contactless_read}
+use Rattle.rules.specs.declared.Access.{Access}
+use Rattle.rules.specs.declared.Access.TheVariants.{Always, WithPin, Never}
+use Rattle.rules.specs.Store.{work_size, contact_read, contactless_read}
 
 -- ---- one setter for each group of fields
 
@@ -35,10 +34,10 @@ cleared air = record {
   contactless = air;
   pin = false;
   admin = false;
-  chain = Shut;
-  rest = Gone;
-  challenge = Unasked;
-  job = Idle;
+  chain = None;
+  rest = None;
+  challenge = None;
+  job = None;
 }
 
 abbrev pub with_pin : Session → Bool → Session
@@ -63,7 +62,7 @@ with_admin ss b = record {
   job = ss.job;
 }
 
-abbrev pub holding : Session → Chain → Rest → Session
+abbrev pub holding : Session → Option Chain → Option Rest → Session
 holding ss c r = record {
   contactless = ss.contactless;
   pin = ss.pin;
@@ -74,7 +73,7 @@ holding ss c r = record {
   job = ss.job;
 }
 
-abbrev pub with_challenge : Session → Challenge → Session
+abbrev pub with_challenge : Session → Option ℕ → Session
 with_challenge ss c = record {
   contactless = ss.contactless;
   pin = ss.pin;
@@ -85,7 +84,7 @@ with_challenge ss c = record {
   job = ss.job;
 }
 
-abbrev pub with_job : Session → Job → Session
+abbrev pub with_job : Session → Option Job → Session
 with_job ss j = record {
   contactless = ss.contactless;
   pin = ss.pin;
@@ -102,42 +101,44 @@ abbrev pub pin_given : Session → Bool
 pin_given ss = ss.pin
 
 abbrev pub allows : Session → Access → Bool
-allows ss always = true
-allows ss PIN = pin_given ss
-allows ss never = false
+allows ss Always = true
+allows ss WithPin = pin_given ss
+allows ss Never = false
 
 unfoldable pub readable : Session → ℕ → Bool
-readable ss i = allows ss (iff ss.contactless (get_or contactless_read i never) (get_or contact_read i never))
+readable ss i = allows ss (iff ss.contactless (get_or contactless_read i Never) (get_or contact_read i Never))
 
 -- ---- what it holds
 
-abbrev pub chain_length : Chain → ℕ
-chain_length Shut = 0
-chain_length (Open ins p1 p2 n) = n
+abbrev pub rest_of : ℕ → ℕ → Rest
+rest_of whole fetched = record { whole = whole; fetched = fetched }
 
-abbrev pub whole_length : Rest → ℕ
-whole_length Gone = 0
-whole_length (Left whole fetched) = whole
+abbrev pub job_of : ℕ → ℕ → ℕ → Job
+job_of key alg le = record { key = key; alg = alg; le = le }
+
+abbrev pub chain_length : Option Chain → ℕ
+chain_length None = 0
+chain_length (Some c) = c.len
+
+abbrev pub whole_length : Option Rest → ℕ
+whole_length None = 0
+whole_length (Some r) = r.whole
 
 -- never both in a possible session
 abbrev pub held_length : Session → ℕ
 held_length ss = chain_length ss.chain + whole_length ss.rest
 
-abbrev pub chain_open : Chain → Bool
-chain_open Shut = false
-chain_open (Open ins p1 p2 n) = true
+abbrev pub chain_open : Option Chain → Bool
+chain_open c = is_some c
 
-abbrev pub rest_held : Rest → Bool
-rest_held Gone = false
-rest_held (Left whole fetched) = true
+abbrev pub rest_held : Option Rest → Bool
+rest_held r = is_some r
 
-abbrev pub challenge_held : Challenge → Bool
-challenge_held Unasked = false
-challenge_held (Awaits reply) = true
+abbrev pub challenge_held : Option ℕ → Bool
+challenge_held c = is_some c
 
-abbrev pub running : Job → Bool
-running Idle = false
-running (Running key alg le) = true
+abbrev pub running : Option Job → Bool
+running j = is_some j
 
 abbrev pub job_open : Session → Bool
 job_open ss = running ss.job
@@ -152,14 +153,14 @@ abbrev pub put_total : ℕ
 put_total = work_size
 
 -- INS 87 or DB; at most 13,321 bytes, of an 87 chain at most 266
-abbrev pub chain_ok : Chain → Bool
-chain_ok Shut = true
-chain_ok (Open ins p1 p2 n) = leb n work_size && iff (eqb ins 0x87) (leb n auth_total) (eqb ins 0xDB)
+abbrev pub chain_ok : Option Chain → Bool
+chain_ok None = true
+chain_ok (Some c) = leb c.len work_size && iff (eqb c.ins 0x87) (leb c.len auth_total) (eqb c.ins 0xDB)
 
 -- at most 13,321 bytes, and something left to fetch
-abbrev pub rest_ok : Rest → Bool
-rest_ok Gone = true
-rest_ok (Left whole fetched) = leb whole work_size && ltb fetched whole
+abbrev pub rest_ok : Option Rest → Bool
+rest_ok None = true
+rest_ok (Some r) = leb r.whole work_size && ltb r.fetched r.whole
 
 unfoldable pub user_key : ℕ → Bool
 user_key key = eqb key 0x9A || eqb key 0x9C || eqb key 0x9D || eqb key 0x9E
@@ -172,9 +173,9 @@ unfoldable pub key_job_ok : ℕ → ℕ → Bool
 key_job_ok key alg = iff (eqb key 0x9B) (eqb alg 0x00) (user_key key && user_algorithm alg)
 
 -- an expected length of 1 to 256
-abbrev pub job_ok : Job → Bool
-job_ok Idle = true
-job_ok (Running key alg le) = key_job_ok key alg && leb 1 le && leb le 256
+abbrev pub job_ok : Option Job → Bool
+job_ok None = true
+job_ok (Some j) = key_job_ok j.key j.alg && leb 1 j.le && leb j.le 256
 
 unfoldable pub session_tests : Session → List Bool
 session_tests ss =

@@ -17,6 +17,8 @@
 --
 -- Assumes nothing.
 use Rattle.std.specs.Prelude.{Bool, ◌&&◌, ◌||◌, List, [], ◌∷◌, ◌++◌, ℕ, ◌+◌, ◌-◌, leb, eqb, length, get_or}
+use Rattle.rules.specs.declared.Access.{Access}
+use Rattle.rules.specs.declared.Access.TheVariants.{Always, WithPin, Never}
 use Rattle.rules.specs.Bytes.{iff, all_true, all, all_below, first_from, same_bytes, part, splice, zeros, word, be16}
 use Rattle.rules.specs.Reference.{pin_form, reference_ok, reference_at}
 
@@ -34,10 +36,6 @@ response_size = 258
 -- ---- the table: capability container, CHUID, certificate 9A, fingerprints, security object, face,
 --      certificates 9E, 9C and 9D, printed information, key history, Discovery
 
--- when an object may be read
-pub data Access : Type 0 where
-  always PIN never : Access
-
 abbrev pub slots : ℕ
 slots = 12
 
@@ -54,13 +52,13 @@ offsets = 32 ∷ 546 ∷ 4644 ∷ 6694 ∷ 10792 ∷ 12842 ∷ 26156 ∷ 28206 �
 
 abbrev pub contact_read : List Access
 contact_read =
-    always ∷ always ∷ always ∷ PIN ∷ always ∷ PIN
-    ∷ always ∷ always ∷ always ∷ PIN ∷ always ∷ always ∷ []
+    Always ∷ Always ∷ Always ∷ WithPin ∷ Always ∷ WithPin
+    ∷ Always ∷ Always ∷ Always ∷ WithPin ∷ Always ∷ Always ∷ []
 
 abbrev pub contactless_read : List Access
 contactless_read =
-    never ∷ always ∷ never ∷ never ∷ never ∷ never
-    ∷ always ∷ never ∷ never ∷ never ∷ never ∷ always ∷ []
+    Never ∷ Always ∷ Never ∷ Never ∷ Never ∷ Never
+    ∷ Always ∷ Never ∷ Never ∷ Never ∷ Never ∷ Always ∷ []
 
 abbrev pub discovery : ℕ
 discovery = 11

@@ -5,7 +5,7 @@
 ghost use Rattle.std.specs.Prelude.{◌≡◌};
 ghost use Rattle.rules.specs.Session.{cleared, holding, with_challenge, with_job, chain_length};
 
-use rules::{Chain, Challenge, Job, Rest, Session};
+use rules::{Chain, Job, Rest, Session};
 
 // ---- setters
 
@@ -17,75 +17,35 @@ pub fn cleared(contactless: bool) -> Session
         contactless,
         pin: false,
         admin: false,
-        chain: Chain::Shut,
-        rest: Rest::Gone,
-        challenge: Challenge::Unasked,
-        job: Job::Idle,
+        chain: None,
+        rest: None,
+        challenge: None,
+        job: None,
     }
 }
 
-pub fn holding(s: Session, chain: Chain, rest: Rest) -> Session
+pub fn holding(s: Session, chain: Option<Chain>, rest: Option<Rest>) -> Session
     ensures { result ≡ holding s chain rest }
 {
-    let asked = s.challenge;
-    let task = s.job;
-    Session {
-        contactless: s.contactless,
-        pin: s.pin,
-        admin: s.admin,
-        chain,
-        rest,
-        challenge: asked,
-        job: task,
-    }
+    Session { chain, rest, ..s }
 }
 
-pub fn with_challenge(s: Session, challenge: Challenge) -> Session
+pub fn with_challenge(s: Session, challenge: Option<u64>) -> Session
     ensures { result ≡ with_challenge s challenge }
 {
-    let open = s.chain;
-    let left = s.rest;
-    let kept = s.job;
-    Session {
-        contactless: s.contactless,
-        pin: s.pin,
-        admin: s.admin,
-        chain: open,
-        rest: left,
-        challenge,
-        job: kept,
-    }
+    Session { challenge, ..s }
 }
 
-pub fn with_job(s: Session, job: Job) -> Session
+pub fn with_job(s: Session, job: Option<Job>) -> Session
     ensures { result ≡ with_job s job }
 {
-    let pieces = s.chain;
-    let unread = s.rest;
-    let awaited = s.challenge;
-    Session {
-        contactless: s.contactless,
-        pin: s.pin,
-        admin: s.admin,
-        chain: pieces,
-        rest: unread,
-        challenge: awaited,
-        job,
-    }
+    Session { job, ..s }
 }
 
 // ---- what a session holds
 
-pub fn chain_length(c: Chain) -> usize
+pub fn chain_length(c: Option<Chain>) -> usize
     ensures { result ≡ chain_length c }
 {
-    match c {
-        Chain::Shut => 0,
-        Chain::Open {
-            ins: _,
-            p1: _,
-            p2: _,
-            len,
-        } => len,
-    }
+    c.map_or(0, |c| c.len)
 }

@@ -2,75 +2,111 @@
 
 #![tactic(auto)]
 
-ghost use Rattle.std.specs.Prelude.{◌≡◌, List, ℕ, ◌<◌};
+ghost use Rattle.std.specs.Prelude.{◌≡◌, List, ℕ, ◌≤◌, IsTrue};
 ghost use Rattle.rules.specs.Store.{capacity, offset, slot_named, takes};
+ghost use Rattle.table.specs.Slots.{index_of, index_in};
 
-// ---- columns, each a `match`: a constant array would be built anew at every look-up
+// The slots, in the table's order; the book numbers them from 0.
+#[derive(Clone, Copy)]
+pub enum Slot {
+    Capability,
+    Chuid,
+    Certificate9A,
+    Fingerprints,
+    Security,
+    Face,
+    Certificate9E,
+    Certificate9C,
+    Certificate9D,
+    Printed,
+    KeyHistory,
+    Discovery,
+}
 
-pub fn capacity(slot: usize) -> usize
-    requires { slot < 12 }
-    ensures { result ≡ capacity slot }
+// All of them, the last first, as the book goes over them.
+pub const SLOTS: [Slot; 12] = [
+    Slot::Discovery,
+    Slot::KeyHistory,
+    Slot::Printed,
+    Slot::Certificate9D,
+    Slot::Certificate9C,
+    Slot::Certificate9E,
+    Slot::Face,
+    Slot::Security,
+    Slot::Fingerprints,
+    Slot::Certificate9A,
+    Slot::Chuid,
+    Slot::Capability,
+];
+
+// ---- columns, each a `match` with its own numbers: a constant array would be built anew at every look-up
+
+#[tactic(auto, unfolding(rules::specs::Store::capacity))]
+pub fn capacity(slot: Slot) -> usize
+    ensures { result ≡ capacity (index_of slot) }
 {
     match slot {
-        0 => 512,
-        1 => 4096,
-        2 => 2048,
-        3 => 4096,
-        4 => 2048,
-        5 => 13312,
-        6 => 2048,
-        7 => 2048,
-        8 => 2048,
-        9 => 512,
-        10 => 512,
-        _ => 64,
+        Slot::Capability => 512,
+        Slot::Chuid => 4096,
+        Slot::Certificate9A => 2048,
+        Slot::Fingerprints => 4096,
+        Slot::Security => 2048,
+        Slot::Face => 13312,
+        Slot::Certificate9E => 2048,
+        Slot::Certificate9C => 2048,
+        Slot::Certificate9D => 2048,
+        Slot::Printed => 512,
+        Slot::KeyHistory => 512,
+        Slot::Discovery => 64,
     }
 }
 
-pub fn offset(slot: usize) -> usize
-    requires { slot < 12 }
-    ensures { result ≡ offset slot }
+#[tactic(auto, unfolding(rules::specs::Store::offset))]
+pub fn offset(slot: Slot) -> usize
+    ensures { result ≡ offset (index_of slot) }
 {
     match slot {
-        0 => 32,
-        1 => 546,
-        2 => 4644,
-        3 => 6694,
-        4 => 10792,
-        5 => 12842,
-        6 => 26156,
-        7 => 28206,
-        8 => 30256,
-        9 => 32306,
-        10 => 32820,
-        _ => 33334,
+        Slot::Capability => 32,
+        Slot::Chuid => 546,
+        Slot::Certificate9A => 4644,
+        Slot::Fingerprints => 6694,
+        Slot::Security => 10792,
+        Slot::Face => 12842,
+        Slot::Certificate9E => 26156,
+        Slot::Certificate9C => 28206,
+        Slot::Certificate9D => 30256,
+        Slot::Printed => 32306,
+        Slot::KeyHistory => 32820,
+        Slot::Discovery => 33334,
     }
 }
 
 // The slot can take an object of n bytes.
-pub fn takes(slot: usize, n: usize) -> bool
-    requires { slot < 12 }
-    ensures { (s : List ℕ) → result ≡ takes s slot n }
+#[tactic(auto, unfolding(rules::specs::Store::takes))]
+pub fn takes(slot: Slot, n: usize) -> bool
+    ensures takes { (s : List ℕ) → result ≡ takes s (index_of slot) n }
+    ensures fits { IsTrue result → n ≤ capacity (index_of slot) }
 {
     n <= capacity(slot)
 }
 
-// The slot with that tag of three bytes; 12 where there is none.
-pub fn slot_named(tag: u32) -> usize
-    ensures { result ≡ slot_named 3 tag }
+// The slot with that tag of three bytes.
+#[tactic(auto, unfolding(rules::specs::Store::slot_named, rules::specs::Store::named, rules::specs::Store::tag_of, rules::specs::Store::tag_bytes, rules::specs::Bytes::iff))]
+pub fn slot_named(tag: u32) -> Option<Slot>
+    ensures { index_in result ≡ slot_named 3 tag }
 {
     match tag {
-        0x5FC107 => 0,
-        0x5FC102 => 1,
-        0x5FC105 => 2,
-        0x5FC103 => 3,
-        0x5FC106 => 4,
-        0x5FC108 => 5,
-        0x5FC101 => 6,
-        0x5FC10A => 7,
-        0x5FC10B => 8,
-        0x5FC109 => 9,
-        0x5FC10C => 10,
-        _ => 12,
+        0x5FC107 => Some(Slot::Capability),
+        0x5FC102 => Some(Slot::Chuid),
+        0x5FC105 => Some(Slot::Certificate9A),
+        0x5FC103 => Some(Slot::Fingerprints),
+        0x5FC106 => Some(Slot::Security),
+        0x5FC108 => Some(Slot::Face),
+        0x5FC101 => Some(Slot::Certificate9E),
+        0x5FC10A => Some(Slot::Certificate9C),
+        0x5FC10B => Some(Slot::Certificate9D),
+        0x5FC109 => Some(Slot::Printed),
+        0x5FC10C => Some(Slot::KeyHistory),
+        _ => None,
     }
 }

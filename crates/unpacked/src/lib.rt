@@ -5,78 +5,57 @@
 ghost use Rattle.std.specs.Prelude.{◌≡◌, ◌<◌, length};
 ghost use Rattle.unpacked.specs.Unpacked.{flag_at, chain_in, rest_in, challenge_in, job_in, unpacked, session_in};
 
-use rules::{Chain, Challenge, Job, Rest, Session};
+use rules::{Chain, Job, Rest, Session};
 
-// The session that 64 bytes are of.
-#[derive(Clone, Copy)]
-pub enum Taken {
-    Is(Session),
-    No,
-}
-
-fn flag_at(b: &[u8], at: usize) -> bool
-    requires { at < length b.now }
+fn flag_at(b: &[u8; 64], at: usize) -> bool
+    requires { at < 64 }
     ensures { result ≡ flag_at b.now at }
 {
     b[at] != 0
 }
 
-fn chain_in(b: &[u8]) -> Chain
-    requires { length b.now ≡ 64 }
+#[tactic(auto, unfolding(rules::specs::Bytes::iff, crate::specs::Unpacked::chain_in))]
+fn chain_in(b: &[u8; 64]) -> Option<Chain>
     ensures { result ≡ chain_in b.now }
 {
-    if flag_at(b, 3) {
-        return Chain::Open {
-            ins: b[4],
-            p1: b[5],
-            p2: b[6],
-            len: numbers::be16(b, 7),
-        };
-    }
-    Chain::Shut
+    flag_at(b, 3).then_some(Chain {
+        ins: b[4],
+        p1: b[5],
+        p2: b[6],
+        len: numbers::be16(b, 7),
+    })
 }
 
-fn rest_in(b: &[u8]) -> Rest
-    requires { length b.now ≡ 64 }
+#[tactic(auto, unfolding(rules::specs::Bytes::iff, crate::specs::Unpacked::rest_in))]
+fn rest_in(b: &[u8; 64]) -> Option<Rest>
     ensures { result ≡ rest_in b.now }
 {
-    if flag_at(b, 9) {
-        return Rest::Left {
-            whole: numbers::be16(b, 10),
-            fetched: numbers::be16(b, 12),
-        };
-    }
-    Rest::Gone
+    flag_at(b, 9).then_some(Rest {
+        whole: numbers::be16(b, 10),
+        fetched: numbers::be16(b, 12),
+    })
 }
 
-fn challenge_in(b: &[u8]) -> Challenge
-    requires { length b.now ≡ 64 }
+#[tactic(auto, unfolding(rules::specs::Bytes::iff, crate::specs::Unpacked::challenge_in))]
+fn challenge_in(b: &[u8; 64]) -> Option<u64>
     ensures { result ≡ challenge_in b.now }
 {
-    if flag_at(b, 14) {
-        return Challenge::Awaits {
-            reply: numbers::be64(b, 15),
-        };
-    }
-    Challenge::Unasked
+    flag_at(b, 14).then_some(numbers::be64(b, 15))
 }
 
-fn job_in(b: &[u8]) -> Job
-    requires { length b.now ≡ 64 }
+#[tactic(auto, unfolding(rules::specs::Bytes::iff, crate::specs::Unpacked::job_in))]
+fn job_in(b: &[u8; 64]) -> Option<Job>
     ensures { result ≡ job_in b.now }
 {
-    if flag_at(b, 23) {
-        return Job::Running {
-            key: b[24],
-            alg: b[25],
-            le: numbers::be16(b, 26),
-        };
-    }
-    Job::Idle
+    flag_at(b, 23).then_some(Job {
+        key: b[24],
+        alg: b[25],
+        le: numbers::be16(b, 26),
+    })
 }
 
-fn unpack(b: &[u8]) -> Session
-    requires { length b.now ≡ 64 }
+#[tactic(auto, unfolding(crate::specs::Unpacked::unpacked))]
+fn unpack(b: &[u8; 64]) -> Session
     ensures { result ≡ unpacked b.now }
 {
     Session {
@@ -90,17 +69,13 @@ fn unpack(b: &[u8]) -> Session
     }
 }
 
-pub fn session_in(b: &[u8]) -> Taken
+// The session that 64 bytes are of, if there is one.
+#[tactic(auto, unfolding(rules::specs::Bytes::iff, crate::specs::Unpacked::session_in))]
+pub fn session_in(b: &[u8]) -> Option<Session>
     ensures { result ≡ session_in b.now }
 {
-    if b.len() != 64 {
-        return Taken::No;
-    }
-    let s = unpack(b);
-    let mut again = [0u8; 64];
+    let s = unpack(b.as_array()?);
+    let mut again = [0; 64];
     packed::pack(&mut again, s);
-    if !parts::same(&again, b) {
-        return Taken::No;
-    }
-    Taken::Is(s)
+    parts::same(&again, b).then_some(s)
 }

@@ -6,15 +6,11 @@
 --   verb_of l             what the line asks for, and where the hex in it begins
 --
 -- A character is its number; words are parted by one space, 32. Assumes nothing.
-use Rattle.std.specs.Prelude.{Bool, true, false, ◌&&◌, List, [], ◌∷◌, ℕ, ◌+◌, ◌-◌, ◌*◌, min, leb, eqb, length, drop, get_or}
+use Rattle.std.specs.Prelude.{Bool, true, false, ◌&&◌, Option, Some, None, List, [], ◌∷◌, ℕ, ◌+◌, ◌-◌, ◌*◌, min, leb, eqb, length, drop, get_or}
 use Rattle.rules.specs.Bytes.{iff, same_bytes, part}
 use Rattle.lines.specs.declared.What.TheVariants.{Command, Done, Failed}
 use Rattle.verbs.specs.declared.Buffer.{Buffer}
 use Rattle.verbs.specs.declared.Buffer.TheVariants.{Store, Work, Resp}
-use Rattle.verbs.specs.declared.Named.{Named}
-use Rattle.verbs.specs.declared.Named.TheVariants.{Name, Nameless}
-use Rattle.verbs.specs.declared.Number.{Number}
-use Rattle.verbs.specs.declared.Number.TheVariants.{Count, Countless}
 use Rattle.verbs.specs.declared.Verb.{Verb}
 use Rattle.verbs.specs.declared.Verb.TheVariants.{Lend, Put, Session, PowerOn, Ask, Other}
 
@@ -54,11 +50,11 @@ unfoldable pub starts : List ℕ → ℕ → List ℕ → Bool
 starts l from w = same_bytes (part l from (length w)) w
 
 -- "store ", "work ", "resp "
-unfoldable pub buffer_at : List ℕ → ℕ → Named
+unfoldable pub buffer_at : List ℕ → ℕ → Option (Buffer × ℕ)
 buffer_at l from =
-    iff (starts l from store_word) (Name Store (from + 6))
-    (iff (starts l from work_word) (Name Work (from + 5))
-    (iff (starts l from resp_word) (Name Resp (from + 5)) Nameless))
+    iff (starts l from store_word) (Some (Store, from + 6))
+    (iff (starts l from work_word) (Some (Work, from + 5))
+    (iff (starts l from resp_word) (Some (Resp, from + 5)) None))
 
 -- ---- decimal numbers
 
@@ -69,26 +65,26 @@ is_figure d = leb 48 d && leb d 57
 unfoldable pub grown : ℕ → ℕ → ℕ
 grown v d = min (v * 10 + (d - 48)) 40001
 
-abbrev pub scan : ℕ → ℕ → List ℕ → Number
-scan v i [] = Countless
-scan v i (d ∷ l) = let more = scan (grown v d) (i + 1) l in iff (eqb d 32) (Count v (i + 1)) (iff (is_figure d) more Countless)
+abbrev pub scan : ℕ → ℕ → List ℕ → Option (ℕ × ℕ)
+scan v i [] = None
+scan v i (d ∷ l) = let more = scan (grown v d) (i + 1) l in iff (eqb d 32) (Some (v, i + 1)) (iff (is_figure d) more None)
 
-unfoldable pub number_at : List ℕ → ℕ → Number
-number_at l at = iff (leb (length l) at) Countless (iff (is_figure (get_or l at 0)) (scan 0 at (drop at l)) Countless)
+unfoldable pub number_at : List ℕ → ℕ → Option (ℕ × ℕ)
+number_at l at = iff (leb (length l) at) None (iff (is_figure (get_or l at 0)) (scan 0 at (drop at l)) None)
 
 -- ---- lines
 
-abbrev pub put_in : Buffer → Number → Verb
-put_in b (Count n next) = Put b n next
-put_in b Countless = Other
+abbrev pub put_in : Buffer → Option (ℕ × ℕ) → Verb
+put_in b (Some (n, next)) = Put b n next
+put_in b None = Other
 
-abbrev pub put_of : List ℕ → Named → Verb
-put_of l (Name b at) = put_in b (number_at l at)
-put_of l Nameless = Other
+abbrev pub put_of : List ℕ → Option (Buffer × ℕ) → Verb
+put_of l (Some (b, at)) = put_in b (number_at l at)
+put_of l None = Other
 
-abbrev pub lend_of : Named → Verb
-lend_of (Name b from) = Lend b from
-lend_of Nameless = Other
+abbrev pub lend_of : Option (Buffer × ℕ) → Verb
+lend_of (Some (b, from)) = Lend b from
+lend_of None = Other
 
 -- behind "fail" stands nothing
 unfoldable pub verb_of : List ℕ → Verb

@@ -1,28 +1,30 @@
--- The last piece of a chain, or a command in one piece.
+-- A command in one piece, or the end of a chain.
 -- Assumes nothing.
-use mathlib.Core.Path.{ap, ◌∙◌}
-use native.Mathlib.Omega.{arith}
-use Rattle.rules.specs.Session.{chain_length}
-use Rattle.saying.proofs.Laws.{replies, delivers}
-use Rattle.keys.proofs.Laws.{last_open, last-shut}
+use Rattle.std.proofs.Common.{◌+◌, ◌++◌, length, take, ap, ◌∙◌}
+use mathlib.Core.Path.{ap₂}
+use Rattle.rules.specs.declared.Session.{Session}
+use Rattle.rules.specs.Bytes.{zeroed}
+use Rattle.rules.specs.Session.{state}
+use Rattle.rules.specs.Command.{Made}
+use Rattle.rules.specs.Keys.{auth_whole}
+use Rattle.rules.specs.Calls.{delivered}
+use Rattle.saying.proofs.Laws.{delivers}
+use Rattle.held.proofs.Laws.{closed-state, shut-state, gathered_open, gathered-shut}
 use Rattle.keys.proofs.last.Goals as goal
 
-pub returns-in_default : goal.returns-in_default
-returns-in_default c = λ m.
+pub returns-in-None : goal.returns-in-None
+returns-in-None c = λ m.
     let a = c.args in
-    replies m c.told.ensures
-    ∙ c.whole-done.ensures c.holding-t.result m a.work.now
-    ∙ delivers a.resp.now (last-shut a.ch a.h m a.work.now a.field.now a.s _ c.holding-t.ensures
-    c.in_default.is)
+    c.answer.ensures m a.work.now
+    ∙ ap (λ (x : Made). (delivered a.resp.now x).outcome) (c.whole.ensures.made (state m a.work.now c.holding-t.result))
+    ∙ ap (λ (t : Session). (delivered a.resp.now (auth_whole a.ch a.h (state m a.work.now t) a.field.now)).outcome) c.holding-t.ensures
+    ∙ delivers a.resp.now (ap₂ (auth_whole a.ch a.h) (shut-state m a.work.now a.field.now a.s c.in-None.is) (gathered-shut m a.work.now a.field.now a.s c.in-None.is))
 
-pub last_of_chain-requires : goal.last_of_chain-requires
-last_of_chain-requires c =
-    omega (arith, ap chain_length c.in-Open.is, c.requires)
-
-pub returns : goal.returns
-returns c = λ m.
+pub returns-in-Some : goal.returns-in-Some
+unfolding zeroed
+returns-in-Some c = λ m.
     let a = c.args in
+    let n = c.in-Some.c.len in
     c.last_of_chain.ensures m
-    ∙ delivers a.resp.now (last_open a.ch a.h m a.work.now a.field.now a.s _
-    c.holding-t.ensures _ _ _ _
-    c.in-Open.is)
+    ∙ ap (λ (t : Session). (delivered a.resp.now (auth_whole a.ch a.h (state m (zeroed a.work.now (n + length a.field.now)) t) (take n a.work.now ++ a.field.now))).outcome) c.holding-t.ensures
+    ∙ delivers a.resp.now (ap₂ (auth_whole a.ch a.h) (closed-state m a.work.now a.field.now a.s c.in-Some.c c.in-Some.is) (gathered_open m a.work.now a.field.now a.s c.in-Some.c c.in-Some.is))

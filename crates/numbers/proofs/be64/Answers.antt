@@ -1,9 +1,8 @@
--- `numbers::be64` meets its contract: two numbers of 32 bits, one behind the other.
--- Assumes nothing.
-use native.Mathlib.Omega.{arith}
-use Rattle.rules.specs.Bytes.{be64}
+use Rattle.std.proofs.Common.{arith}
+use Rattle.std.proofs.lemmas.Grind.{common_steps}
+use Rattle.rules.specs.Bytes.{be16, be32, be64}
 use Rattle.numbers.proofs.be64.Goals as goal
 
 pub returns : goal.returns
-unfolding be64
-returns c = omega arith
+unfolding be64 be32 be16
+returns c = grind (arith, common_steps)

@@ -15,6 +15,5 @@ returns c =
     let s = c.args.ten.now in
     let d = c.args.d.now in
     rw (c.be64.ensures, c.be64-2.ensures)
-    (number_same number64 s d (λ i. (c.type_inv.ten i).fits) (λ i. (c.type_inv.d i).fits)
-    2 0 (omega arith) (omega arith)
+    (number_same number64 s d c.fits-ten c.fits-d 2 0 (omega arith) (omega arith)
     ∙ ap (same_bytes (part s 2 8)) (take_all 8 d (omega arith)))

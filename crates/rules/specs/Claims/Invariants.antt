@@ -8,10 +8,9 @@
 --   Holds                 the claim
 --
 -- So a host that passes store, work area and session on unchanged is never refused by 1, 2 or 4, whatever it sends. Assumes nothing.
-use Rattle.std.specs.Prelude.{◌≡◌, ◌⊎◌, Bool, true, false, List, [], ◌∷◌, ◌++◌, ℕ, ◌-◌, ◌≤◌, length, take}
+use Rattle.std.specs.Prelude.{◌≡◌, Ok, Err, ◌⊎◌, Bool, true, false, List, [], ◌∷◌, ◌++◌, ℕ, ◌-◌, ◌≤◌, length, take}
 use Rattle.rules.specs.declared.Refusal.{Refusal}
 use Rattle.rules.specs.declared.Refusal.TheVariants.{IllStore, IllSession, ShortResponse, WrongWork, JobOpen, NoJob, WrongResult}
-use Rattle.rules.specs.declared.Permit.TheVariants.{Granted, Denied}
 use Rattle.rules.specs.declared.Session.{Session}
 use Rattle.rules.specs.Bytes.{zeros}
 use Rattle.rules.specs.Reference.{reference_at}
@@ -69,8 +68,8 @@ pin_equal (new_value w v ∷ ss) = pin_equal ss
 -- earned: the PIN status becomes TRUE only in a call in which the PIN was compared and found equal; RESET RETRY COUNTER does not give it
 -- whatever session and work area there were before the power-on; calls that are refused, and further power-ons, are part of a run
 pub record Holds : Type 0 where
-  pub always : (s w : List ℕ) (ss : Session) (air : Bool) → permit (state s w ss) (powers air) ≡ Granted
+  pub always : (s w : List ℕ) (ss : Session) (air : Bool) → permit (state s w ss) (powers air) ≡ Ok tt
       → (ks : List Call) → Each Plain ks → Sane (end_of (state s w ss) (powers air ∷ ks))
-  pub passed_on : (s w : List ℕ) (ss : Session) (air : Bool) → permit (state s w ss) (powers air) ≡ Granted
-      → (ks : List Call) → Each Plain ks → (k : Call) (r : Refusal) → permit (end_of (state s w ss) (powers air ∷ ks)) k ≡ Denied r → Pardoned r
+  pub passed_on : (s w : List ℕ) (ss : Session) (air : Bool) → permit (state s w ss) (powers air) ≡ Ok tt
+      → (ks : List Call) → Each Plain ks → (k : Call) (r : Refusal) → permit (end_of (state s w ss) (powers air ∷ ks)) k ≡ Err r → Pardoned r
   pub earned : (st : State) (k : Call) → (call st k).outcome.reply.session.pin ≡ true → (st.session.pin ≡ true) ⊎ (pin_equal (call st k).steps ≡ true)

@@ -6,10 +6,9 @@
 --   Holds              the claim: the rule at 1, 2 and 3 bytes, and that nothing else is read
 --
 -- Assumes nothing.
-use Rattle.std.specs.Prelude.{◌≡◌, List, ◌++◌, ℕ, zero, suc, ◌+◌, ◌-◌, ◌^◌, ◌≤◌, ◌<◌, length, get_or}
-use Rattle.rules.specs.declared.Length.TheVariants.{Is}
+use Rattle.std.specs.Prelude.{◌≡◌, Some, List, ◌++◌, ℕ, zero, suc, ◌+◌, ◌-◌, ◌^◌, ◌≤◌, ◌<◌, length, get_or}
 use Rattle.rules.specs.Bytes.{part}
-use Rattle.rules.specs.Ber.{length_bytes, ber_length, length_at}
+use Rattle.rules.specs.Ber.{length_bytes, ber_length, with_next, length_at}
 
 -- 7 bits in one byte, 8 in two, 16 in three
 abbrev pub room : ℕ → ℕ
@@ -28,10 +27,10 @@ pub record Rule (k : ℕ) : Type 0 where
   pub counted : (n : ℕ) → room (k - 1) ≤ n → n < room k → length_bytes n ≡ k
   pub wide : (n : ℕ) → room (k - 1) ≤ n → n < room k → length (ber_length n) ≡ k
   pub read_back : (n : ℕ) → room (k - 1) ≤ n → n < room k
-      → (before after : List ℕ) → length_at (before ++ (ber_length n ++ after)) (length before) ≡ Is n (length before + k)
+      → (before after : List ℕ) → length_at (before ++ (ber_length n ++ after)) (length before) ≡ Some (with_next n (length before + k))
 
 -- only_shortest: whatever is read as a length is the form that is written for it, and no other
 pub record Holds : Type 0 where
   pub rule : (k : ℕ) → 1 ≤ k → k ≤ 3 → Rule k
-  pub only_shortest : (s : List ℕ) (at n next : ℕ) → Bytes s → length_at s at ≡ Is n next
+  pub only_shortest : (s : List ℕ) (at n next : ℕ) → Bytes s → length_at s at ≡ Some (with_next n next)
       → (next ≡ at + length_bytes n) × (part s at (length_bytes n) ≡ ber_length n)

@@ -16,13 +16,10 @@
 --   Holds                  the claim
 --
 -- Assumes nothing.
-use Rattle.std.specs.Prelude.{◌≡◌, Bool, true, false, ◌&&◌, List, [], ◌∷◌, ◌++◌, map, ℕ, ◌+◌, ◌-◌, ◌/◌, ◌%◌, ◌≤◌, ◌<◌, eqb, length, take, get_or}
+use Rattle.std.specs.Prelude.{◌≡◌, Option, None, Some, Ok, Err, Bool, true, false, ◌&&◌, List, [], ◌∷◌, ◌++◌, map, ℕ, ◌+◌, ◌-◌, ◌/◌, ◌%◌, ◌≤◌, ◌<◌, eqb, length, take, get_or}
 use Rattle.rules.specs.declared.Chain.{Chain}
-use Rattle.rules.specs.declared.Chain.TheVariants.{Shut, Open}
 use Rattle.rules.specs.declared.Header.{Header}
-use Rattle.rules.specs.declared.Checked.TheVariants.{Passed}
 use Rattle.rules.specs.declared.Refusal.{Refusal}
-use Rattle.rules.specs.declared.Permit.TheVariants.{Granted, Denied}
 use Rattle.rules.specs.declared.Answer.{Answer}
 use Rattle.rules.specs.declared.Answer.TheVariants.{PoweredOn, Response, JobOpened, Refused}
 use Rattle.rules.specs.declared.Session.{Session}
@@ -104,17 +101,17 @@ last_word (r ∷ q ∷ rs) = last_word (q ∷ rs)
 -- ---- a completed PUT DATA
 
 -- a chain of PUT DATA is open
-abbrev pub put_open : Chain → Bool
-put_open Shut = false
-put_open (Open ins p1 p2 n) = eqb ins 0xDB && eqb p1 0x3F && eqb p2 0xFF
+abbrev pub put_open : Option Chain → Bool
+put_open None = false
+put_open (Some c) = eqb c.ins 0xDB && eqb c.p1 0x3F && eqb c.p2 0xFF
 
 pub record Puts (cla : ℕ) (st : State) (k : Call) (d : List ℕ) : Type 0 where
   pub resp : List ℕ
   pub bytes : List ℕ
   pub head : Header
   pub sent : k ≡ sends resp bytes
-  pub taken : permit st k ≡ Granted
-  pub passed : check st.session.contactless bytes ≡ Passed head
+  pub taken : permit st k ≡ Ok tt
+  pub passed : check st.session.contactless bytes ≡ Ok head
   pub class : head.cla ≡ cla
   pub ins : head.ins ≡ 0xDB
   pub p1 : head.p1 ≡ 0x3F
@@ -126,7 +123,7 @@ pub record Puts (cla : ℕ) (st : State) (k : Call) (d : List ℕ) : Type 0 wher
 pub data Pieces : State → List Call → List ℕ → Type 0 where
   last : (st : State) (k : Call) (d : List ℕ) → Puts 0x00 st k d → Pieces st (k ∷ []) d
   next : (st : State) (k : Call) (ks : List Call) (a d : List ℕ) → Puts 0x10 st k a → Pieces (leaves (call st k)) ks d → Pieces st (k ∷ ks) (a ++ d)
-  refused : (st : State) (k : Call) (ks : List Call) (d : List ℕ) (r : Refusal) → permit st k ≡ Denied r → Pieces (leaves (call st k)) ks d → Pieces st (k ∷ ks) d
+  refused : (st : State) (k : Call) (ks : List Call) (d : List ℕ) (r : Refusal) → permit st k ≡ Err r → Pieces (leaves (call st k)) ks d → Pieces st (k ∷ ks) d
 
 abbrev pub Untouched : ℕ → State → List Call → Type 0
 Untouched i st [] = Unit {0}
@@ -177,15 +174,15 @@ pub record Replaced (s t : List ℕ) (i : ℕ) (v : List ℕ) : Type 0 where
 -- others: a completed PUT DATA leaves every other object as it was, and zeros behind its own in the slot
 -- unfinished: a PUT DATA that does not complete changes no byte of the store
 pub record Holds : Type 0 where
-  pub back : (s w : List ℕ) (ss : Session) (air : Bool) → permit (state s w ss) (powers air) ≡ Granted
+  pub back : (s w : List ℕ) (ss : Session) (air : Bool) → permit (state s w ss) (powers air) ≡ Ok tt
       → (before pieces between : List Call) → Each Plain before → Each Plain pieces → Each Plain between
       → (i : ℕ) (v : List ℕ) → i < slots
       → (st : State) → st ≡ end_of (state s w ss) (powers air ∷ before) → put_open st.session.chain ≡ false → Pieces st pieces (put_field i v)
       → Untouched i (end_of st pieces) between → (now : State) → now ≡ end_of (end_of st pieces) between → job_open now.session ≡ false
       → Answers now i v
-  pub others : (s w : List ℕ) (ss : Session) (air : Bool) → permit (state s w ss) (powers air) ≡ Granted
+  pub others : (s w : List ℕ) (ss : Session) (air : Bool) → permit (state s w ss) (powers air) ≡ Ok tt
       → (ks : List Call) → Each Plain ks → (st : State) → st ≡ end_of (state s w ss) (powers air ∷ ks)
       → (k : Call) → Plain k → (i : ℕ) (v : List ℕ) → (call st k).wrote ≡ in_slot i v
       → Replaced st.store (call st k).outcome.store i v
-  pub unfinished : (st : State) (resp c : List ℕ) (h : Header) → check st.session.contactless c ≡ Passed h → h.ins ≡ 0xDB
+  pub unfinished : (st : State) (resp c : List ℕ) (h : Header) → check st.session.contactless c ≡ Ok h → h.ins ≡ 0xDB
       → (call st (sends resp c)).wrote ≡ nothing → (call st (sends resp c)).outcome.store ≡ st.store

@@ -5,10 +5,9 @@
 --   Holds              the claim
 --
 -- Assumes nothing.
-use Rattle.std.specs.Prelude.{◌≡◌, []}
+use Rattle.std.specs.Prelude.{◌≡◌, Err, []}
 use Rattle.rules.specs.declared.Refusal.{Refusal}
 use Rattle.rules.specs.declared.Answer.TheVariants.{Refused}
-use Rattle.rules.specs.declared.Permit.TheVariants.{Denied}
 use Rattle.rules.specs.Command.{nothing}
 use Rattle.rules.specs.Session.{State}
 use Rattle.rules.specs.Calls.{Call, permit, lent, kept_session, call}
@@ -23,4 +22,4 @@ pub record Kept (st : State) (k : Call) (r : Refusal) : Type 0 where
   pub wrote : (call st k).wrote ≡ nothing
 
 abbrev pub Holds : Type 0
-Holds = (st : State) (k : Call) (r : Refusal) → permit st k ≡ Denied r → Kept st k r
+Holds = (st : State) (k : Call) (r : Refusal) → permit st k ≡ Err r → Kept st k r

@@ -12,11 +12,12 @@
 --   Holds                 the claim
 --
 -- It is stated of the machine of demand 2, `call`. Refused calls and further power-ons are calls of a run like others. Assumes nothing.
-use Rattle.std.specs.Prelude.{◌≡◌, Bool, true, false, ◌&&◌, ◌||◌, List, [], ◌∷◌, ℕ, zero, suc, ◌+◌, ltb, leb, length, get_or}
-use Rattle.rules.specs.declared.Permit.TheVariants.{Granted}
+use Rattle.std.specs.Prelude.{◌≡◌, Ok, Bool, true, false, ◌&&◌, ◌||◌, List, [], ◌∷◌, ℕ, zero, suc, ◌+◌, ltb, leb, length, get_or}
 use Rattle.rules.specs.declared.Session.{Session}
 use Rattle.rules.specs.Reference.{reference_at}
-use Rattle.rules.specs.Store.{Access, always, PIN, never, contact_read, slots, capacity, offset, pin_at, puk_at}
+use Rattle.rules.specs.declared.Access.{Access}
+use Rattle.rules.specs.declared.Access.TheVariants.{Always, WithPin, Never}
+use Rattle.rules.specs.Store.{contact_read, slots, capacity, offset, pin_at, puk_at}
 use Rattle.rules.specs.Session.{state}
 use Rattle.rules.specs.Command.{Step, charge, equal, unequal, restore, new_value}
 use Rattle.rules.specs.Calls.{Call, powers, Result, permit}
@@ -28,12 +29,12 @@ abbrev pub within : ℕ → ℕ → ℕ → Bool
 within at n j = leb at j && ltb j (at + n)
 
 abbrev pub is_pin : Access → Bool
-is_pin always = false
-is_pin PIN = true
-is_pin never = false
+is_pin Always = false
+is_pin WithPin = true
+is_pin Never = false
 
 unfoldable pub pin_read : ℕ → Bool
-pin_read i = is_pin (get_or contact_read i never)
+pin_read i = is_pin (get_or contact_read i Never)
 
 abbrev pub any_below : (ℕ → Bool) → ℕ → Bool
 any_below f zero = false
@@ -88,6 +89,6 @@ AllSame (x ∷ xs) (y ∷ ys) = Same x y × AllSame xs ys
 
 abbrev pub Holds : Type 0
 Holds =
-    (s t w : List ℕ) (ss : Session) (air : Bool) → permit (state s w ss) (powers air) ≡ Granted → permit (state t w ss) (powers air) ≡ Granted → Alike s t
+    (s t w : List ℕ) (ss : Session) (air : Bool) → permit (state s w ss) (powers air) ≡ Ok tt → permit (state t w ss) (powers air) ≡ Ok tt → Alike s t
     → (ks : List Call) → NoneEqual (run (state s w ss) (powers air ∷ ks)) → NoneEqual (run (state t w ss) (powers air ∷ ks))
     → AllSame (run (state s w ss) (powers air ∷ ks)) (run (state t w ss) (powers air ∷ ks))

@@ -15,9 +15,7 @@
 --   Holds                the claim
 --
 -- Assumes nothing.
-use Rattle.std.specs.Prelude.{◌≡◌, Bool, true, false, not, ◌&&◌, List, [], ◌∷◌, ◌++◌, map, ℕ, zero, suc, ◌+◌, ◌-◌, ◌/◌, ◌%◌, eqb, length, take, drop, replicate}
-use Rattle.rules.specs.declared.Chain.TheVariants.{Open}
-use Rattle.rules.specs.declared.Rest.TheVariants.{Gone}
+use Rattle.std.specs.Prelude.{◌≡◌, None, Some, Bool, true, false, not, ◌&&◌, List, [], ◌∷◌, ◌++◌, map, ℕ, zero, suc, ◌+◌, ◌-◌, ◌/◌, ◌%◌, eqb, length, take, drop, replicate}
 use Rattle.rules.specs.declared.Session.{Session}
 use Rattle.rules.specs.declared.Answer.{Answer}
 use Rattle.rules.specs.declared.Answer.TheVariants.{PoweredOn, Response, JobOpened, Refused}
@@ -426,7 +424,7 @@ zero_first n = zeros n ++ replicate (work_size - n) 0xAA
 
 -- two bytes of the work area are an open chain of PUT DATA
 abbrev pub chained : Bool → Session
-chained admin = holding (with_admin (cleared false) admin) (Open 0xDB 0x3F 0xFF 2) Gone
+chained admin = holding (with_admin (cleared false) admin) (Some (record { ins = 0xDB; p1 = 0x3F; p2 = 0xFF; len = 2 })) None
 
 abbrev pub held_bytes : List Row
 held_bytes =
@@ -456,7 +454,7 @@ layout = fact (eqb (offset 0) 32) ∷ fact (all_below behind 11) ∷ fact (eqb (
 
 -- a session with an open chain of INS 20
 abbrev pub impossible : Session
-impossible = holding (cleared false) (Open 0x20 0 0 0) Gone
+impossible = holding (cleared false) (Some (record { ins = 0x20; p1 = 0; p2 = 0; len = 0 })) None
 
 abbrev pub refusals : List Row
 refusals =

@@ -10,8 +10,7 @@
 --   Holds                the claim
 --
 -- Assumes nothing.
-use Rattle.std.specs.Prelude.{◌≡◌, Bool, true, false, ◌&&◌, ◌||◌, List, [], ◌∷◌, ℕ, leb, eqb}
-use Rattle.rules.specs.declared.Checked.TheVariants.{Passed, Failed}
+use Rattle.std.specs.Prelude.{◌≡◌, Ok, Err, Bool, true, false, ◌&&◌, ◌||◌, List, [], ◌∷◌, ℕ, leb, eqb}
 use Rattle.rules.specs.declared.Header.{Header}
 use Rattle.rules.specs.Bytes.{iff}
 use Rattle.rules.specs.Store.{well_formed}
@@ -52,8 +51,8 @@ Tells ok (responds d sw) = ok sw ≡ true
 Tells ok (opens_job key alg d) = Unit {0}
 
 pub record Holds : Type 0 where
-  pub failed : (st : State) (c : List ℕ) (sw : ℕ) → check st.session.contactless c ≡ Failed sw
+  pub failed : (st : State) (c : List ℕ) (sw : ℕ) → check st.session.contactless c ≡ Err sw
       → (check_words sw ≡ true) × Tells check_words (command st c).told
-  pub passed : (st : State) (c : List ℕ) (h : Header) → well_formed st.store ≡ true → check st.session.contactless c ≡ Passed h
+  pub passed : (st : State) (c : List ℕ) (h : Header) → well_formed st.store ≡ true → check st.session.contactless c ≡ Ok h
       → Tells (words h.ins) (command st c).told
   pub result : (st : State) (failed : Bool) (r : List ℕ) → Tells result_words (finished st st.session.job failed r).told

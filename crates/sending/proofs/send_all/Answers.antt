@@ -16,4 +16,4 @@ returns c =
     let b = c.args.body.now in
     c.put_word.ensures
     ∙ ap₂ (λ (d : List ℕ) (n : ℕ). splice d n (word 0x9000)) c.join.ensures (sym (length-append h b))
-    ∙ join-start c.args.resp.now (h ++ b) (word 0x9000) (omega (arith, length-append h b, c.requires))
+    ∙ join-start c.args.resp.now (h ++ b) (word 0x9000) (omega (arith, length-append h b))

@@ -1,12 +1,7 @@
-use mathlib.Core.Path.{◌≡◌}
-use mathlib.Core.List.{◌++◌}
-use Prim.Native.Nat.{◌-◌, ◌≤◌}
-use lib.ListN.{length, take, drop}
+use Rattle.std.proofs.Common.{◌≡◌, take}
 use Rattle.text.specs.Text.{bytes_of}
 use Rattle.text.proofs.decode.Given as goal
 
+-- the first i bytes are those of the digits
 abbrev pub invariant-loop-i : goal.invariant-loop-i
-invariant-loop-i l = (l.i ≤ length l.initial.dst) × (l.dst ≡ take l.i (bytes_of l.l) ++ drop l.i l.initial.dst) × (length l.dst ≡ length l.initial.dst)
-
-abbrev pub decreases-loop-i : goal.decreases-loop-i
-decreases-loop-i l = length l.initial.dst - l.i
+invariant-loop-i l = take l.i l.dst ≡ take l.i (bytes_of l.l)

@@ -5,4 +5,4 @@ use Rattle.wellformed.proofs.Laws.{mark-number}
 use Rattle.wellformed.proofs.marked.Goals as goal
 
 pub returns : goal.returns
-returns c = rw c.be64.ensures (mark-number _ (λ i. (c.type_inv.store i).fits) (omega arith))
+returns c = rw c.be64.ensures (mark-number _ c.fits-store (omega arith))

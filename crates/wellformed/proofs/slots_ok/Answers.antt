@@ -1,31 +1,24 @@
--- `wellformed::slots_ok` meets its contract. The loop's invariant: the slots passed are in order.
+-- The slots are tested one by one, the last first, as the book does.
 -- Assumes nothing.
-use mathlib.Core.Path.{◌≡◌, refl, sym, ap, ◌∙◌}
-use native.Mathlib.Omega.{arith}
-use borrow.Author.Rules.{rules}
-use Rattle.rules.specs.Bytes.{all_below}
-use Rattle.rules.specs.Store.{slots, slot_ok}
-use Rattle.rules.proofs.Tests.{passes, fails}
-use Rattle.wellformed.proofs.Laws.{below_more, below_off}
+use Rattle.std.proofs.Common.{rules, List, [], ◌∷◌, Bool, sym, ◌∙◌}
+use Rattle.std.proofs.lemmas.Iterator.{YieldsList-from_slice}
+use Rattle.std.proofs.lemmas.Iterator.Search.{all_from_yields_List}
+use borrow.Author.Tests.{tests}
+use Rattle.rules.specs.Store.{slot_ok, store_tests}
+use Rattle.rules.proofs.Tests.{and_end}
+use Rattle.table.specs.Slots.{index_of}
+use Rattle.table.specs.declared.Slot.{Slot}
+use Rattle.table.specs.declared.Slot.TheVariants.{Capability, Chuid, Certificate9A, Fingerprints, Security, Face, Certificate9E, Certificate9C, Certificate9D, Printed, KeyHistory, Discovery}
 use Rattle.wellformed.proofs.slots_ok.Goals as goal
 
-pub loop-slot-init : goal.loop-slot-init
-loop-slot-init c = (search rules, refl)
-
-pub returns-then-not-slot_ok : goal.returns-then-not-slot_ok
-returns-then-not-slot_ok c =
-    let s = c.args.store.now in
-    sym (below_off (slot_ok s) slots _ c.loop-slot-test.true (fails c.slot_ok.ensures c.if-not-slot_ok.true-raw))
-
-pub loop-slot-preserved : goal.loop-slot-preserved
-loop-slot-preserved c =
-    let s = c.args.store.now in
-    let l = c.loop-slot in
-    (omega arith, below_more (slot_ok s) l.slot l.invariant.1 (passes c.slot_ok.ensures c.if-not-slot_ok.false-raw))
+all_slots : List Slot
+all_slots =
+    Discovery ∷ KeyHistory ∷ Printed ∷ Certificate9D ∷ Certificate9C ∷ Certificate9E
+    ∷ Face ∷ Security ∷ Fingerprints ∷ Certificate9A ∷ Chuid ∷ Capability ∷ []
 
 pub returns : goal.returns
+unfolding store_tests all_slots
 returns c =
-    let s = c.args.store.now in
-    let l = c.loop-slot in
-    let all : l.slot ≡ slots = omega arith in
-    sym (ap (all_below (slot_ok s)) (sym all) ∙ l.invariant.1)
+    let f : Slot → Bool = λ s. slot_ok c.args.store.now (index_of s) in
+    all_from_yields_List f _ _ _ c.all.ensures.ran (YieldsList-from_slice all_slots c.iter.ensures.rest) (λ x b q k. search (rules, tests))
+    ∙ sym (and_end _)

@@ -1,51 +1,34 @@
 -- `resetting::reset_given` meets its contract: a comparison, and after a hit the steps that the rule names.
 -- Assumes nothing.
-use mathlib.Core.Path.{◌≡◌}
 use native.Mathlib.Omega.{arith}
 use borrow.Author.Rules.{rules}
-use lib.ListN.{length}
-use Rattle.rules.specs.Reference.{pin_form, puk_form}
 use Rattle.rules.specs.Command.{the_pin, the_puk, restore, new_value}
-use Rattle.rules.specs.Pin.{the, refs_in}
-use Rattle.pin.proofs.attempt.Laws.{next_step, equal_formed, two_sixteen, half_length, last_half, refused, missed_by, found}
-use Rattle.pin.proofs.resetting.Laws.{reset_is, reset_by}
+use Rattle.pin.proofs.Steps.{next_step, charged_row}
+use Rattle.pin.proofs.Compared.{blocked, formless, missed_by, found, last-length, reset_is, reset_by}
 use Rattle.pin.proofs.resetting.reset_given.Goals as goal
 
-pub compare_puk-requires : goal.compare_puk-requires
-compare_puk-requires c =
-    (search rules, λ e. omega (arith, two_sixteen puk_form pin_form c.args.field.now c.two_values-formed.ensures e))
+pub returns-in_err-tries : goal.returns-in_err-tries
+returns-in_err-tries c = λ b.
+    let k = c.in_err-tries.ensures b in
+    blocked (reset_is c.args.store.now b c.args.field.now (omega arith)) b k.0 (search (rules, k.1))
 
-pub part-requires : goal.part-requires
-unfolding the
-part-requires c =
-    let long : length c.args.field.now ≡ 16 = two_sixteen puk_form pin_form c.args.field.now c.two_values-formed.ensures
-    (equal_formed (the (refs_in c.args.store.now c.args.given) the_puk) _ c.args.field.now (c.compare_puk.ensures c.args.given).0 c.in-Equal.is) in
-    omega (arith, long)
+pub returns-in_err-puk : goal.returns-in_err-puk
+returns-in_err-puk c = λ b.
+    formless (reset_is c.args.store.now b c.args.field.now (omega arith)) b
+    (c.in_ok-tries.ensures b).0 (rw c.in_err-puk.ensures.ok_part at c.two_values.ensures) (search rules)
 
-pub new_pin-requires : goal.new_pin-requires
-unfolding the
-new_pin-requires c =
-    let long : length c.args.field.now ≡ 16 = two_sixteen puk_form pin_form c.args.field.now c.two_values-formed.ensures
-    (equal_formed (the (refs_in c.args.store.now c.args.given) the_puk) _ c.args.field.now (c.compare_puk.ensures c.args.given).0 c.in-Equal.is) in
-    (search rules, half_length c.args.field.now (long) 8 (omega arith) c.part.ensures)
+pub returns-in_err-compare : goal.returns-in_err-compare
+returns-in_err-compare c = λ b.
+    let p = rw c.in_ok-puk.ensures.ok_part at c.two_values.ensures in
+    let k = c.in_err-compare.ensures b in
+    missed_by (reset_is c.args.store.now b c.args.field.now (omega arith)) b
+    (c.in_ok-tries.ensures b).0 p.0 (rw p.1 at k.1.0) k.0 (search (rules, k.1.1))
 
-pub returns-in-Refused : goal.returns-in-Refused
-unfolding the refs_in
-returns-in-Refused c =
-    refused (reset_is c.args.store.now c.args.given c.args.field.now c.two_values-formed.ensures) c.compare_puk.ensures c.in-Refused.is
-
-pub returns-in-Unequal : goal.returns-in-Unequal
-unfolding the refs_in
-returns-in-Unequal c =
-    missed_by (reset_is c.args.store.now c.args.given c.args.field.now c.two_values-formed.ensures) c.compare_puk.ensures c.in-Unequal.is
-
-pub returns-in-Equal : goal.returns-in-Equal
-unfolding the refs_in
-returns-in-Equal c =
-    let long : length c.args.field.now ≡ 16 = two_sixteen puk_form pin_form c.args.field.now c.two_values-formed.ensures
-    (equal_formed (the (refs_in c.args.store.now c.args.given) the_puk) _ c.args.field.now (c.compare_puk.ensures c.args.given).0 c.in-Equal.is) in
-    let b = c.args.given in
-    let h = found (reset_is c.args.store.now c.args.given c.args.field.now c.two_values-formed.ensures) c.compare_puk.ensures c.requires c.in-Equal.is in
-    let v = next_step h.1 (new_value the_pin _) (half_length c.args.field.now (long) 8 (omega arith) c.part.ensures) (c.new_pin.ensures b) in
-    reset_by (last_half c.args.field.now (long) c.part.ensures)
-    (next_step (next_step v (restore the_pin) tt (c.restore_pin.ensures b)) (restore the_puk) tt (c.restore_puk.ensures b)) h.0
+pub returns : goal.returns
+returns c = λ b.
+    let s = c.args.store.now in
+    let p = rw c.in_ok-puk.ensures.ok_part at c.two_values.ensures in
+    let k = c.in_ok-compare.ensures b in
+    let v = next_step (charged_row b the_puk (omega arith) k.0) (new_value the_pin c.in_ok-puk.new.now) (last-length _ _ _ p.0 p.2) (c.renew.ensures b) in
+    reset_by p.2 (next_step (next_step v (restore the_pin) tt (c.restore.ensures b)) (restore the_puk) tt (c.restore-2.ensures b))
+    (found (reset_is s b c.args.field.now (omega arith)) (c.in_ok-tries.ensures b).0 p.0 (rw p.1 at k.1))

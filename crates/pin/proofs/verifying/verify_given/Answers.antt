@@ -1,31 +1,33 @@
 -- `verifying::verify_given` meets its contract: a comparison, and after a hit the step that the rule names.
 -- Assumes nothing.
-use mathlib.Core.Path.{sym, ◌∙◌}
+use mathlib.Core.Bool.{true}
 use native.Mathlib.Omega.{arith}
 use borrow.Author.Rules.{rules}
 use Rattle.rules.specs.Command.{the_pin, restore}
-use Rattle.rules.specs.Pin.{the, refs_in}
-use Rattle.pin.proofs.attempt.Laws.{next_step, refused, missed_by, found}
-use Rattle.pin.proofs.verifying.Laws.{pin-length, verify_is, verified_by}
+use Rattle.pin.proofs.Steps.{next_step, charged_row}
+use Rattle.pin.proofs.Compared.{blocked, formless, missed_by, found, verify_is, verified_by}
 use Rattle.pin.proofs.verifying.verify_given.Goals as goal
 
-pub compare_pin-requires : goal.compare_pin-requires
-compare_pin-requires c =
-    (search rules, λ e. omega (arith, pin-length (c.args.field.now) (sym c.pin_form.ensures ∙ e)))
+pub returns-in_err-tries : goal.returns-in_err-tries
+returns-in_err-tries c = λ b.
+    let k = c.in_err-tries.ensures b in
+    blocked (verify_is c.args.store.now b c.args.field.now (omega arith)) true k.0 (search (rules, k.1))
 
-pub returns-in-Refused : goal.returns-in-Refused
-unfolding the refs_in
-returns-in-Refused c =
-    refused (verify_is (c.args.store.now) c.args.given (c.args.field.now) c.pin_form.ensures) c.compare_pin.ensures c.in-Refused.is
+pub returns-in_err-value : goal.returns-in_err-value
+returns-in_err-value c = λ b.
+    formless (verify_is c.args.store.now b c.args.field.now (omega arith)) true
+    (c.in_ok-tries.ensures b).0 (rw c.in_err-value.ensures.ok_part at c.formed.ensures) (search rules)
 
-pub returns-in-Unequal : goal.returns-in-Unequal
-unfolding the refs_in
-returns-in-Unequal c =
-    missed_by (verify_is (c.args.store.now) c.args.given (c.args.field.now) c.pin_form.ensures) c.compare_pin.ensures c.in-Unequal.is
+pub returns-in_err-compare : goal.returns-in_err-compare
+returns-in_err-compare c = λ b.
+    let p = rw c.in_ok-value.ensures.ok_part at c.formed.ensures in
+    let k = c.in_err-compare.ensures b in
+    missed_by (verify_is c.args.store.now b c.args.field.now (omega arith)) true
+    (c.in_ok-tries.ensures b).0 p.0 (rw p.1 at k.1.0) k.0 (search (rules, k.1.1))
 
-pub returns-in-Equal : goal.returns-in-Equal
-unfolding the refs_in
-returns-in-Equal c =
-    let b = c.args.given in
-    let h = found (verify_is (c.args.store.now) b (c.args.field.now) c.pin_form.ensures) c.compare_pin.ensures c.requires c.in-Equal.is in
-    verified_by (next_step h.1 (restore the_pin) tt (c.restore_pin.ensures b)) h.0
+pub returns : goal.returns
+returns c = λ b.
+    let p = rw c.in_ok-value.ensures.ok_part at c.formed.ensures in
+    let k = c.in_ok-compare.ensures b in
+    verified_by (next_step (charged_row b the_pin (omega arith) k.0) (restore the_pin) tt (c.restore.ensures b))
+    (found (verify_is c.args.store.now b c.args.field.now (omega arith)) (c.in_ok-tries.ensures b).0 p.0 (rw p.1 at k.1))
