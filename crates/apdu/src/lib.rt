@@ -35,7 +35,8 @@ fn header(c: &[u8], lc: usize, le: usize) -> Header
     }
 }
 
-// More than five bytes: Lc (1 to 255), data, perhaps Le.
+// More than five bytes: Lc (1 to 255), data, perhaps Le. What a header says of its bytes (`Shaped`) is a clause: the type holds no bytes, and others
+// promise for any header.
 #[tactic(auto, unfolding(rules::specs::Command::parse_long, rules::specs::Command::header, rules::specs::Bytes::iff))]
 fn parse_long(c: &[u8], lc: usize) -> Result<Header, Fault>
     requires longer { 5 < length c.now }

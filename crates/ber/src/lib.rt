@@ -10,7 +10,8 @@ use rules::{Length, Place};
 
 // ---- lengths
 
-// 01: the number of length bytes follows from the count of significant bits.
+// 01: the number of length bytes follows from the count of significant bits. A clause and no `u16`, since callers hold a length; as a cast it fits
+// by the clause, and `u32::try_from` would have an `Err` that no call takes.
 #[tactic(auto, unfolding(rules::specs::Ber::length_bytes, rules::specs::Ber::bits, rules::specs::Bytes::iff))]
 pub fn length_bytes(n: usize) -> usize
     requires { n < 65536 }

@@ -66,9 +66,10 @@ impl<R: Read> Feed<R> {
         Ok(Some(b))
     }
 
-    // The next line: it is the first so many bytes of the buffer. None at the end of the input.
+    // The next line: it is the first so many bytes of the buffer, and no slice, since the buffer is the caller's again. None at the end of the input.
     pub fn next(&mut self, line: &mut [u8]) -> io::Result<Option<usize>>
         requires { 2 ≤ length line.old }
+        ensures size { length line.new ≡ length line.old }
         ensures fits { IfOk result (λ r. IfSome r (λ n. n ≤ length line.new)) }
         ensures line { IfOk result (TakesLine (to_come R.remaining self.old) (to_come R.remaining self.new) line.old line.new) }
     {

@@ -1,4 +1,5 @@
-// Heads: the tag and the length of a data object as they go out (01, "The data objects in a command").
+// Heads: the tag and the length of a data object as they go out (01, "The data objects in a command"). They are written into a buffer at a place: the
+// card has no heap.
 
 #![tactic(auto)]
 
@@ -15,7 +16,7 @@ fn write_length(dst: &mut [u8], at: usize, n: usize) -> usize
     ensures written { dst.new ≡ splice dst.old at (ber_length n) }
 {
     let k = ber::length_bytes(n);
-    // As a cast: the clause says that it fits.
+    // As a cast: it fits by the clause, and `u16::try_from` would have an `Err` that no call takes.
     let [high, low] = (n as u16).to_be_bytes();
     match k {
         1 => octets::put(dst, at, &[low]),

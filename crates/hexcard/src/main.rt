@@ -17,7 +17,8 @@ fn main(rt: HostRuntime) -> io::Result<()> {
     issued::fixed_card(&mut store);
     let mut session = card::power_on(&store, &mut work, false).session;
     let mut feed = Feed::new(rt.stdin());
-    // Nothing says that the lines end, and a proved loop does: no run takes so many turns.
+    // Nothing says that the lines end, and a proved loop does: no run takes so many turns. probe has its like: a closure for the turn would hold
+    // the buffers, and is no plainer.
     for _ in 0..u64::MAX {
         let Some(n) = feed.next(&mut line)? else {
             break;

@@ -53,7 +53,7 @@ fn challenged(s: Session, work: &mut Work, resp: &mut [u8], le: usize, res: &[u8
     saying::told(t, sent)
 }
 
-// The open job is closed, whatever its result.
+// The open job is closed, whatever its result. Keys are bytes: the reason stands at `Session` of rules.
 fn finish(s: Session, work: &mut Work, resp: &mut [u8], job: Job, failed: bool, res: &[u8]) -> Reply
     requires resp { 258 ≤ length resp.old }
     requires le { job.le ≤ 256 }

@@ -1,10 +1,9 @@
 -- Replies: what a whole GENERAL AUTHENTICATE comes to, as the code finds it before anything is written.
 --
 --   auth_made st r        it came to r in the state st
---   ShortData a           the data of a job that is opened are at most 256 bytes
 --
 -- Assumes nothing.
-use Rattle.std.specs.Prelude.{Result, Ok, Err, true, false, ◌≤◌, length}
+use Rattle.std.specs.Prelude.{Result, Ok, Err, true, false}
 use Rattle.rules.specs.declared.Fault.{Fault}
 use Rattle.rules.specs.Fault.{word_of}
 use Rattle.rules.specs.Session.{State, in_session, with_admin}
@@ -18,10 +17,4 @@ abbrev pub auth_made : State → Result Auth Fault → Made
 auth_made st (Err f) = says st (word_of f)
 auth_made st (Ok Known) = says (in_session st (with_admin st.session true)) 0x9000
 auth_made st (Ok Unknown) = says (in_session st (with_admin st.session false)) 0x6982
-auth_made st (Ok (Opens j d)) = opened st j.key j.alg j.le d.now
-
--- a job's data fit the response buffer
-abbrev pub ShortData : Auth → Type 0
-ShortData Known = Unit {0}
-ShortData Unknown = Unit {0}
-ShortData (Opens j d) = length d.now ≤ 256
+auth_made st (Ok (Opens j d)) = opened st j.key j.alg j.le d.bytes.now

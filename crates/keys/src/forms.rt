@@ -3,45 +3,23 @@
 ghost use Rattle.std.specs.Prelude.{◌≡◌, ◌+◌, ◌≤◌, ℕ, List, ⊤, length, IfSome};
 ghost use Rattle.rules.specs.Ber.{last_at};
 ghost use Rattle.reader.specs.Read.{behind_first};
-ghost use Rattle.rules.specs.Keys.{challenge_in, reply_in, admin_form, data_tag, data_ok, data_in, key_form};
+ghost use Rattle.rules.specs.Keys.{admin_form, data_tag, data_ok, data_in, key_form};
 ghost use Rattle.keys.specs.Forms.{ReplyInside};
 
 use rules::{Admin, Place};
 
 // 81 empty, or 82 and eight bytes, and no more.
-#[tactic(auto, unfolding(rules::specs::Keys::admin_form, rules::specs::Bytes::iff))]
+#[tactic(auto, unfolding(rules::specs::Keys::admin_form, rules::specs::Keys::challenge_in, rules::specs::Keys::reply_in, rules::specs::Bytes::iff))]
 pub fn admin_form(t: &[u8]) -> Option<Admin>
     ensures form { result ≡ admin_form t.now }
     ensures inside { IfSome result (ReplyInside t.now) }
 {
-    match t.first() {
-        Some(0x81) => challenge_form(t),
-        _ => reply_form(t),
+    if let Some(0x81) = t.first() {
+        let value = reader::only(t, 0x81)?;
+        return (value.len == 0).then_some(Admin::GiveChallenge);
     }
-}
-
-#[tactic(auto, unfolding(rules::specs::Keys::challenge_in, rules::specs::Bytes::iff))]
-fn challenge_form(t: &[u8]) -> Option<Admin>
-    ensures form { result ≡ challenge_in (last_at t.now 0 0x81) }
-    ensures inside { IfSome result (ReplyInside t.now) }
-{
-    let value = reader::only(t, 0x81)?;
-    if value.len != 0 {
-        return None;
-    }
-    Some(Admin::GiveChallenge)
-}
-
-#[tactic(auto, unfolding(rules::specs::Keys::reply_in, rules::specs::Bytes::iff))]
-fn reply_form(t: &[u8]) -> Option<Admin>
-    ensures form { result ≡ reply_in (last_at t.now 0 0x82) }
-    ensures inside { IfSome result (ReplyInside t.now) }
-{
     let value = reader::only(t, 0x82)?;
-    if value.len != 8 {
-        return None;
-    }
-    Some(Admin::Reply { from: value.from })
+    (value.len == 8).then_some(Admin::Reply { from: value.from })
 }
 
 // 9D with 11 takes a point (85) instead of data (81).

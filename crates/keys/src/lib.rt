@@ -4,6 +4,7 @@
 #![tactic(auto)]
 
 mod forms;
+mod input;
 mod keyuse;
 mod template;
 

@@ -16,7 +16,7 @@ pub enum What {
     Failed,
 }
 
-// What a line leaves: the session, and the number of bytes that are to be printed.
+// What a line leaves: the session, and the number of bytes that are to be printed, in the buffer of whoever asked.
 #[derive(Clone, Copy)]
 pub struct Said {
     pub session: Session,

@@ -1,5 +1,5 @@
 // Outcomes: all that is seen of a call, as one line of text.
-// Each writer is given the buffer and a place in it, and answers the place behind what it wrote.
+// Each writer is given the buffer and a place in it, and answers the place behind what it wrote: there is no heap.
 
 #![tactic(auto)]
 

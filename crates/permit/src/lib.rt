@@ -13,7 +13,7 @@ use rules::{Job, Refusal, Session};
 
 // ---- whether bytes can be the result of a job
 
-// 16 bytes for a challenge; 256 bytes (07), 1 to 72 (11) or 32 (9D with 11).
+// 16 bytes for a challenge; 256 bytes (07), 1 to 72 (11) or 32 (9D with 11). Key and algorithm are passed side by side, as in the book's word.
 #[tactic(auto, unfolding(rules::specs::Keys::result_ok, rules::specs::Bytes::iff))]
 fn result_ok(key: u8, alg: u8, n: usize) -> bool
     ensures { (r : List ℕ) → length r ≡ n → result ≡ result_ok key alg r }
@@ -50,7 +50,8 @@ pub fn power_on(formed: bool, area: usize) -> Result<(), Refusal>
     Ok(())
 }
 
-// Refusals 1 to 4, which a command and a job result share.
+// Refusals 1 to 4, which a command and a job result share. What a call that is permitted may count on is said by each of the three: of its own
+// arguments, and of lengths, since a host may lend a longer buffer.
 #[tactic(auto, unfolding(crate::specs::Four::first_four, rules::specs::Bytes::iff))]
 fn first_four(formed: bool, session: Session, resp: usize, work: usize) -> Result<(), Refusal>
     ensures permit { result ≡ first_four formed session resp work }

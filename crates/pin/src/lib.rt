@@ -24,6 +24,7 @@ ghost use Rattle.pin.specs.Rule.{pin_rule};
 
 use rules::{Header, Judged, Reply, Session, Store, Work};
 
+// INS is a byte: the reason stands at `Session` of rules.
 #[tactic(auto, unfolding(crate::specs::Rule::pin_rule, rules::specs::Bytes::iff))]
 fn judge(store: &mut Store, given: bool, h: Header, field: &[u8]) -> Judged
     ensures { judgement result store.new ≡ judged_on store.old given (pin_rule (refs_in store.old given) h field.now) }

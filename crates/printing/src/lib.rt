@@ -1,5 +1,5 @@
 // Printing: bytes in hex.
-// Whoever writes text is given a buffer and a place in it, and answers the place behind what it wrote.
+// Whoever writes text is given a buffer and a place in it, and answers the place behind what it wrote: there is no heap.
 
 #![tactic(auto)]
 

@@ -27,7 +27,7 @@ struct Lent<const N: usize> {
 }
 
 impl<const N: usize> Lent<N> {
-    // The bytes that a line gives from a place on, and as many are lent from now on. None where they do not fit.
+    // The bytes that a line gives from a place on, and as many are lent from now on. False, and as many as before are lent, where they do not fit.
     fn lend(&mut self, line: &[u8], from: usize) -> bool {
         let fits = placing::place(&mut self.bytes, line, 0, from);
         if fits {
@@ -69,6 +69,7 @@ impl Desk {
         desk
     }
 
+    // An arm each: the three differ in type, and the check does not follow a loan that a match chooses.
     fn lend(&mut self, b: Buffer, line: &[u8], from: usize) -> bool {
         match b {
             Buffer::Store => self.store.lend(line, from),
@@ -115,7 +116,8 @@ fn main(rt: HostRuntime) -> io::Result<()> {
     let mut desk = Desk::new();
     let mut line = [0u8; 100000];
     let mut feed = Feed::new(rt.stdin());
-    // Nothing says that the lines end, and a proved loop does: no run takes so many turns.
+    // Nothing says that the lines end, and a proved loop does: no run takes so many turns. hexcard has its like: a closure for the turn would hold
+    // the buffers, and is no plainer.
     for _ in 0..u64::MAX {
         let Some(n) = feed.next(&mut line)? else {
             break;

@@ -37,6 +37,7 @@ use Rattle.saying.specs.Replies.{after_sent, sent_reply}
 use Rattle.table.specs.declared.Slot.{Slot}
 use Rattle.table.specs.declared.Slot.TheVariants.{Capability, Chuid, Certificate9A, Fingerprints, Security, Face, Certificate9E, Certificate9C, Certificate9D, Printed, KeyHistory, Discovery}
 use Rattle.table.specs.Slots.{index_in}
+use Rattle.rules.proofs.U16FromFault.from.Reads as rules-from
 use Rattle.parts.proofs.same.Reads as parts_same
 use Rattle.parts.proofs.part.Reads as parts-part
 use Rattle.octets.proofs.put.Reads as octets-put
@@ -81,6 +82,8 @@ use Rattle.held.proofs.based.Reads as held-based
 use Rattle.held.proofs.hold_piece.Reads as held-hold-piece
 use Rattle.saying.proofs.say.Reads as saying-say
 use Rattle.saying.proofs.drop_say.Reads as saying-drop-say
+use Rattle.saying.proofs.end.Reads as saying-end
+use Rattle.saying.proofs.drop_end.Reads as saying-drop-end
 use Rattle.saying.proofs.told.Reads as saying-told
 use Rattle.sending.proofs.send.Reads as sending-send
 use Rattle.sending.proofs.fetch.Reads as sending-fetch
@@ -109,6 +112,12 @@ by_outcome p q =
 
 any_session : Session
 any_session = record { contactless = false; pin = false; admin = false; chain = None; rest = None; challenge = None; job = None }
+
+-- ---- rules
+
+-- a fault's status word, as a number
+once_rules-from : (κs : _) (a : _) (r q : ℕ) (s t : _) → rules-from.Post κs a r s → rules-from.Post κs a q t → r ≡ q
+once_rules-from κs a r q s t = alike r q
 
 -- ---- octets
 
@@ -317,6 +326,12 @@ once_saying-say κs a r q s t x y = let e = by_outcome (x [] []) (y [] []) in (e
 
 once_saying-drop_say : (κs : _) (a : _) (r q : Reply) (s t : _) → saying-drop-say.Post κs a r s → saying-drop-say.Post κs a q t → (r ≡ q) × (s.1.0.now ≡ t.1.0.now) × (s.1.1.0.now ≡ t.1.1.0.now)
 once_saying-drop_say κs a r q s t x y = let e = by_outcome (x []) (y []) in (e.0, e.2, e.3)
+
+once_saying-end : (κs : _) (a : _) (r q : Reply) (s t : _) → saying-end.Post κs a r s → saying-end.Post κs a q t → (r ≡ q) × (s.1.0.now ≡ t.1.0.now)
+once_saying-end κs a r q s t x y = let e = by_outcome (x [] []) (y [] []) in (e.0, e.3)
+
+once_saying-drop_end : (κs : _) (a : _) (r q : Reply) (s t : _) → saying-drop-end.Post κs a r s → saying-drop-end.Post κs a q t → (r ≡ q) × (s.1.0.now ≡ t.1.0.now) × (s.1.1.0.now ≡ t.1.1.0.now)
+once_saying-drop_end κs a r q s t x y = let e = by_outcome (x []) (y []) in (e.0, e.2, e.3)
 
 once_saying-told : (κs : _) (a : _) (r q : Reply) (s t : _) → saying-told.Post κs a r s → saying-told.Post κs a q t → r ≡ q
 once_saying-told κs a r q s t = alike r q

@@ -16,7 +16,8 @@ pub type Work = [u8; 13321];
 
 // ---- the session
 
-// INS, keys and algorithms are bytes and no enums: a session that the host hands in holds any byte there (`possible`, refusal 2).
+// INS, keys and algorithms are bytes and no enums: a session that the host hands in holds any byte there (`possible`, refusal 2), and `get_data`,
+// `put_data`, `authenticate` and pin's `command` promise for any header.
 
 // An open command chain: what its pieces share, and how many of its bytes the work area holds.
 #[derive(Clone, Copy)]
@@ -68,7 +69,7 @@ pub enum Refusal {
     WrongResult,
 }
 
-// A response stands in the first `len` bytes of the response buffer, and so do a job's data.
+// A response stands in the first `len` bytes of the response buffer, and so do a job's data. A length and no slice: the buffer is the host's again.
 #[derive(Clone, Copy)]
 pub enum Answer {
     PoweredOn,
@@ -156,7 +157,8 @@ pub struct Judged {
 
 // ---- a command, taken apart
 
-// The header, the number of data bytes (they start at 5) and the expected length.
+// The header, the number of data bytes (they start at 5) and the expected length. That Le is at most 256 and a field at most 255 bytes are clauses
+// and not in the type: the four functions named at `Session` promise for any header.
 #[derive(Clone, Copy)]
 pub struct Header {
     pub cla: u8,
@@ -184,7 +186,8 @@ pub struct Length {
     pub next: usize,
 }
 
-// Where an object's value starts, and its length.
+// Where an object's value starts, and its length. A place and no slice, since `object_at` of the book is one (`once_ber-read_object`); so that it lies
+// in its row is a clause of whoever reads it.
 #[derive(Clone, Copy)]
 pub struct Place {
     pub from: usize,

@@ -16,16 +16,17 @@ ghost use Rattle.saying.specs.Replies.{sent_reply};
 use rules::{Answer, Reply, Rest, Session, Work};
 use saying::Sent;
 
-// 61 and the number of bytes left, 00 if 256 or more.
+// 61 and the number of bytes left, 00 if 256 or more. A word and no `Fault`: neither this nor 9000 is one.
 #[tactic(auto, unfolding(rules::specs::Held::left_word, rules::specs::Bytes::iff))]
 fn left_word(n: usize) -> u16
     ensures { result ≡ left_word n }
 {
-    // As a cast: the test says that it fits.
+    // As a cast: it fits by the test, and `u16::try_from` would have an `Err` that no call takes.
     if n < 256 { 0x6100 + n as u16 } else { 0x6100 }
 }
 
-// Two stretches, one behind the other, from the start of a buffer.
+// Two stretches, one behind the other, from the start of a buffer. A head and a body are passed as they are: a struct of the two would be made for one
+// call each time.
 #[tactic(auto, using(rules::proofs::Lists::buffers))]
 fn join(dst: &mut [u8], head: &[u8], body: &[u8])
     requires { length head.now + length body.now ≤ length dst.old }

@@ -12,7 +12,8 @@ use table::Slot;
 
 // ---- objects
 
-// The object itself, where it stands; empty where there is none.
+// The object itself, where it stands; empty where there is none. That a store is well formed is a clause and not in a type: the host lends its bytes
+// anew for each call, and `card` looks at them then.
 pub fn object(store: &Store, slot: Slot) -> &[u8]
     requires { well_formed store.now ≡ true }
     ensures object { result.now ≡ object_of store.now (index_of slot) }
@@ -30,7 +31,7 @@ fn write_slot(part: &mut [u8], value: &[u8])
 {
     let n = value.len();
     let rest = part.len() - 2 - n;
-    // As a cast: the clause says that it fits.
+    // As a cast: it fits by the clause, and `u16::try_from` would have an `Err` that no call takes.
     octets::put_word(part, 0, n as u16);
     octets::put(part, 2, value);
     octets::zero(part, 2 + n, rest);
@@ -48,6 +49,7 @@ pub fn put_object(store: &mut Store, slot: Slot, value: &[u8])
 
 // ---- keys
 
+// Keys are bytes: the reason stands at `Session` of rules.
 #[tactic(auto, unfolding(rules::specs::Store::key_place, rules::specs::Bytes::iff))]
 fn key_place(key: u8) -> usize
     ensures { result ≡ key_place key }

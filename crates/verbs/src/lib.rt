@@ -61,7 +61,7 @@ fn grown(v: usize, d: u8) -> usize
     (v * 10 + usize::from(d - b'0')).min(40001)
 }
 
-// The number that stands there, and the place behind it.
+// The number that stands there, and the place behind it. By hand: `str::parse` takes a whole text and fails at a large number, which here stays 40001.
 #[tactic(auto, using(crate::proofs::Laws::grown_small, crate::proofs::Laws::scan_at, crate::proofs::Laws::scan_end), unfolding(rules::specs::Bytes::iff, crate::specs::Verbs::is_figure, crate::specs::Verbs::number_at))]
 fn number_at(l: &[u8], at: usize) -> Option<(usize, usize)>
     ensures { result ≡ number_at l.now at }

@@ -38,7 +38,7 @@ fn pin_ok(store: &Store) -> bool
     pinform::pin_form(&store[10..18])
 }
 
-// 00 absent, 07 RSA 2048, 11 P-256.
+// 00 absent, 07 RSA 2048, 11 P-256. A byte and no enum: any byte may stand in a store.
 #[tactic(auto, unfolding(rules::specs::Store::algorithm_ok))]
 fn algorithm_ok(a: u8) -> bool
     ensures { result ≡ algorithm_ok a }
