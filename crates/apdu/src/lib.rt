@@ -2,10 +2,10 @@
 
 #![tactic(auto)]
 
-ghost use Rattle.std.specs.Prelude.{◌≡◌, ◌+◌, ◌≤◌, ◌<◌, length, IfOk};
+ghost use Rattle.std.specs.Prelude.{◌≡◌, ◌+◌, ◌≤◌, ◌<◌, length, IfOk, IfErr};
 ghost use Rattle.rules.specs.Fault.{worded};
 ghost use Rattle.rules.specs.Command.{le_of, header, parse_long, parse, known, chains, contact_only, admit, check};
-ghost use Rattle.apdu.specs.Shape.{Shaped};
+ghost use Rattle.apdu.specs.Shape.{Shaped, Uncounted};
 
 use rules::{Fault, Header};
 
@@ -43,6 +43,7 @@ fn parse_long(c: &[u8], lc: usize) -> Result<Header, Fault>
     requires few { lc ≤ 255 }
     ensures parsed { worded result ≡ parse_long c.now lc }
     ensures shape { IfOk result (Shaped c.now) }
+    ensures fault { IfErr result Uncounted }
 {
     if lc == 0 {
         return Err(Fault::WrongLength);
@@ -60,6 +61,7 @@ fn parse_long(c: &[u8], lc: usize) -> Result<Header, Fault>
 fn parse(c: &[u8]) -> Result<Header, Fault>
     ensures parsed { worded result ≡ parse c.now }
     ensures shape { IfOk result (Shaped c.now) }
+    ensures fault { IfErr result Uncounted }
 {
     match c.len() {
         4 => Ok(header(c, 0, 256)),
@@ -97,6 +99,7 @@ fn contact_only(ins: u8) -> bool
 fn admit(contactless: bool, h: Header) -> Result<Header, Fault>
     ensures admitted { worded result ≡ admit contactless h }
     ensures same { IfOk result (λ k. k ≡ h) }
+    ensures fault { IfErr result Uncounted }
 {
     if matches!(h.cla, 0x0C | 0x1C) {
         return Err(Fault::SecureMessaging);
@@ -120,6 +123,7 @@ fn admit(contactless: bool, h: Header) -> Result<Header, Fault>
 pub fn check(contactless: bool, c: &[u8]) -> Result<Header, Fault>
     ensures checked { worded result ≡ check contactless c.now }
     ensures shape { IfOk result (Shaped c.now) }
+    ensures fault { IfErr result Uncounted }
 {
     admit(contactless, parse(c)?)
 }

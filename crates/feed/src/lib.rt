@@ -21,7 +21,7 @@ pub struct Feed<R> {
 }
 
 impl<R: Read> Feed<R> {
-    ghost use Rattle.feed.specs.Feeding.{to_come, TakesByte, TakesLine};
+    ghost use Rattle.feed.specs.Feeding.{to_come, TakesByte, TakesLine, SameLine};
     ghost use Rattle.std.specs.Prelude.{◌≡◌, OnOk};
     ghost use Rattle.std.specs.Io.KnownBytes.{Keeps, IsAtEnd};
 
@@ -66,6 +66,29 @@ impl<R: Read> Feed<R> {
         Ok(Some(b))
     }
 
+    // Keeps what was read before an LF, behind the `had` bytes of the line; what is still to come ends the same line. The place is a number of its own
+    // meanwhile: in the struct it would be written to memory for each byte.
+    fn keep_read(&mut self, line: &mut [u8], had: usize) -> usize
+        requires room { 2 ≤ length line.old }
+        requires held { had ≤ length line.old }
+        ensures size { length line.new ≡ length line.old }
+        ensures fits { result ≤ length line.new }
+        ensures same { SameLine (to_come R.remaining self.old) (to_come R.remaining self.new) line.old had line.new result }
+    {
+        let mut n = had;
+        let mut at = self.at;
+        for next in self.at..self.end {
+            let byte = self.given[next];
+            if byte == b'\n' {
+                break;
+            }
+            n = keeping::keep(line, n, byte);
+            at = next + 1;
+        }
+        self.at = at;
+        n
+    }
+
     // The next line: it is the first so many bytes of the buffer, and no slice, since the buffer is the caller's again. None at the end of the input.
     pub fn next(&mut self, line: &mut [u8]) -> io::Result<Option<usize>>
         requires { 2 ≤ length line.old }
@@ -76,6 +99,7 @@ impl<R: Read> Feed<R> {
         let mut n = 0;
         // Nothing says that a line ends, and a proved loop does: no run takes so many turns.
         for _ in 0..u64::MAX {
+            n = self.keep_read(line, n);
             match self.byte()? {
                 Some(b'\n') => return Ok(Some(n)),
                 Some(b) => n = keeping::keep(line, n, b),

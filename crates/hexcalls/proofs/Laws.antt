@@ -103,7 +103,7 @@ finishes-few st resp r n e =
 
 -- ---- calls
 
-asked-few : (w : What) (st : State) (resp c : List ℕ) (n : ℕ) → n ≡ min (length c) 262
+pub asked-few : (w : What) (st : State) (resp c : List ℕ) (n : ℕ) → n ≡ min (length c) 262
     → (call st (asked w resp (take n c))).outcome ≡ (call st (asked w resp c)).outcome
 asked-few Command st resp c n e = sends-few st resp c n e
 asked-few Done st resp c n e = finishes-few st resp c n e

@@ -20,7 +20,7 @@ use Rattle.outcomes.specs.Sums.{sum_of}
 use Rattle.outcomes.proofs.Digits.{length_decimal}
 use Rattle.outcomes.specs.Outcomes.{kind, session_text, sum_text, sums_text}
 
-take-few : (n : ℕ) (s : List ℕ) → length (take n s) ≤ length s
+pub take-few : (n : ℕ) (s : List ℕ) → length (take n s) ≤ length s
 take-few n s = omega (arith, length-take n s)
 
 pub kind-length : (a : Answer) (p : List ℕ) → length (kind a p) ≤ 7 + 2 * length p

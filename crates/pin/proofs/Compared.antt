@@ -30,24 +30,23 @@ use Rattle.pin.specs.Attempt.{two_values, judged_of}
 use Rattle.pin.proofs.Steps.{Row, charged_row, judged_by, quiet}
 
 pub record Compares (x : Said) (s : List ℕ) (b : Bool) (w : Which) (hit : Said) (miss a ok m : Bool) : Type 0 where
-  pub size : 28 ≤ length s
   pub row : x ≡ iff a (answer 0x6983 (refs_in s b)) (iff (not ok) (answer 0x6A80 (refs_in s b)) (iff m hit (missed (refs_in s b) w miss)))
 
 module _ {x hit : Said} {s : List ℕ} {b miss a ok m : Bool} {w : Which} (o : Compares x s b w hit miss a ok m) where
-  module _ {t : Result (Unit {0}) Miss} (g : Bool) where
+  module _ {t : Result (Unit {0}) Miss} (g : Bool) (l : 28 ≤ length s) where
     pub blocked : a ≡ true → t ≡ Err (Refused Blocked) → judgement (judged_of t b g miss) s ≡ judged_on s b x
     unfolding refs_in
-    blocked p e = rw e (quiet b (record { said = Err Blocked; given = b }) o.size (o.row ∙ on _ _ _ p))
+    blocked p e = rw e (quiet b (record { said = Err Blocked; given = b }) l (o.row ∙ on _ _ _ p))
 
     pub formless : a ≡ false → ok ≡ false → t ≡ Err (Refused WrongData) → judgement (judged_of t b g miss) s ≡ judged_on s b x
     unfolding refs_in
-    formless p q e = rw e (quiet b (record { said = Err WrongData; given = b }) o.size (o.row ∙ off _ _ _ p ∙ on _ _ _ (ap not q)))
+    formless p q e = rw e (quiet b (record { said = Err WrongData; given = b }) l (o.row ∙ off _ _ _ p ∙ on _ _ _ (ap not q)))
 
     pub missed_by : {u : List ℕ} → a ≡ false → ok ≡ true → m ≡ false → u ≡ refs_onto s (stepped (refs_in s b) (charge w))
         → t ≡ Err (Unequal ((the (refs_in s b) w).left - 1)) → judgement (judged_of t b g miss) u ≡ judged_on s b x
     unfolding missed made stepped tries_word charged
     missed_by p q r h e =
-        rw e (judged_by (judged_of (Err (Unequal ((the (refs_in s b) w).left - 1))) b g miss) (missed (refs_in s b) w miss) (charged_row b w o.size h)
+        rw e (judged_by (judged_of (Err (Unequal ((the (refs_in s b) w).left - 1))) b g miss) (missed (refs_in s b) w miss) (charged_row b w l h)
         (o.row ∙ off _ _ _ p ∙ off _ _ _ (ap not q) ∙ off _ _ _ r) refl refl)
 
   pub found : a ≡ false → ok ≡ true → m ≡ true → x ≡ hit
@@ -56,27 +55,27 @@ module _ {x hit : Said} {s : List ℕ} {b miss a ok m : Bool} {w : Which} (o : C
 -- ---- the rules that do
 
 -- two tests with one answer are one
-both-not : {A : Type 0} (a b : Bool) (x y : A) → iff (not a) x (iff (not b) x y) ≡ iff (not (a && b)) x y
+pub both-not : {A : Type 0} (a b : Bool) (x y : A) → iff (not a) x (iff (not b) x y) ≡ iff (not (a && b)) x y
 unfolding iff
 both-not true b x y = refl
 both-not false b x y = refl
 
-module _ (s : List ℕ) (b : Bool) (d : List ℕ) (h : 28 ≤ length s) where
+module _ (s : List ℕ) (b : Bool) (d : List ℕ) where
   pub change_is : (w : Which) (form : List ℕ → Bool) (hit miss : Bool)
       → Compares (change_of (refs_in s b) w form hit miss d) s b w (changed w (drop 8 d) hit) miss
       (none_left (the (refs_in s b) w)) (two_values form form d) (matches (the (refs_in s b) w) (take 8 d))
   unfolding change_of two_values
-  change_is w form hit miss = record { size = h; row = ap (iff (none_left (the (refs_in s b) w)) (answer 0x6983 (refs_in s b))) (both-not (eqb (length d) 16) _ _ _) }
+  change_is w form hit miss = record { row = ap (iff (none_left (the (refs_in s b) w)) (answer 0x6983 (refs_in s b))) (both-not (eqb (length d) 16) _ _ _) }
 
   pub reset_is : Compares (reset_given (refs_in s b) d) s b the_puk (reset_to (refs_in s b) (drop 8 d)) false
       (none_left (the (refs_in s b) the_puk)) (two_values puk_form pin_form d) (matches (the (refs_in s b) the_puk) (take 8 d))
   unfolding reset_given two_values the
-  reset_is = record { size = h; row = ap (iff (none_left (refs_in s b).puk) (answer 0x6983 (refs_in s b))) (both-not (eqb (length d) 16) _ _ _) }
+  reset_is = record { row = ap (iff (none_left (refs_in s b).puk) (answer 0x6983 (refs_in s b))) (both-not (eqb (length d) 16) _ _ _) }
 
   pub verify_is : Compares (verify_given (refs_in s b) d) s b the_pin verified false
       (none_left (the (refs_in s b) the_pin)) (pin_form d) (matches (the (refs_in s b) the_pin) d)
   unfolding verify_given the
-  verify_is = record { size = h; row = refl }
+  verify_is = record { row = refl }
 
 -- the last of two values has eight bytes
 pub last-length : (f g : List ℕ → Bool) (d : List ℕ) {v : List ℕ} → two_values f g d ≡ true → v ≡ drop 8 d → length v ≡ 8

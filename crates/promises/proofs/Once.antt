@@ -7,22 +7,24 @@
 -- `permit` promises for every store that is well formed, or is not: that still leaves one.
 -- Assumes nothing.
 use mathlib.Core.Path.{◌≡◌, refl, sym, ap, ◌∙◌}
-use Rattle.std.specs.Prelude.{Option, None, Some, Result}
+use Rattle.std.specs.Prelude.{Option, None, Some, Result, Ok, Err, IfErr}
 use mathlib.Core.Bool.{Bool, true, false}
 use mathlib.Core.List.{List, [], ◌∷◌}
 use Prim.Native.Nat.{ℕ}
+use lib.Dec.{eqb}
 use lib.ListN.{get_or}
 use denote.Ref.{Bor}
 use Rattle.rules.specs.declared.Answer.TheVariants.{PoweredOn, Response, JobOpened, Refused}
 use Rattle.rules.specs.declared.Answer.{Answer}
 use Rattle.rules.specs.declared.Fault.{Fault}
+use Rattle.rules.specs.declared.Fault.TheVariants.{NotEqual, WrongLength, SecureMessaging, NoChaining, NotAllowed, Blocked, NothingHeld, WrongData, NotSupported, NotFound, NoRoom, WrongParameters, NoReference, UnknownIns, UnknownCla, JobFailed}
 use Rattle.rules.specs.declared.Header.{Header}
 use Rattle.rules.specs.declared.Place.{Place}
 use Rattle.rules.specs.declared.Rest.{Rest}
 use Rattle.rules.specs.declared.Reply.{Reply}
 use Rattle.rules.specs.declared.Session.{Session}
-use Rattle.rules.specs.Fault.{Permit, worded}
-use Rattle.rules.specs.Bytes.{zeros}
+use Rattle.rules.specs.Fault.{Permit, word_of, worded}
+use Rattle.rules.specs.Bytes.{iff, zeros}
 use Rattle.rules.specs.Book.{book}
 use Rattle.rules.specs.Store.{well_formed}
 use Rattle.rules.specs.Claims.Starred.{fixed}
@@ -32,6 +34,7 @@ use Rattle.rules.specs.Claims.NoSecond.{Shows}
 use Rattle.rules.proofs.NoSecond.{no_second}
 use Rattle.rules.proofs.Cards.{fixed-well}
 use Rattle.rules.proofs.Lists.{length-zeros}
+use Rattle.apdu.specs.Shape.{Uncounted}
 use Rattle.saying.specs.declared.Sent.{Sent}
 use Rattle.saying.specs.Replies.{after_sent, sent_reply}
 use Rattle.table.specs.declared.Slot.{Slot}
@@ -365,9 +368,45 @@ once_sending-fetch κs a r q s t x y = let e = by_outcome (x []) (y []) in (e.0,
 
 -- ---- apdu
 
--- the same header, or the same status word
-once_apdu-check : (κs : _) (a : _) (r q : Result Header Fault) (s t : _) → apdu-check.Post κs a r s → apdu-check.Post κs a q t → worded r ≡ worded q
-once_apdu-check κs a r q s t x y = alike _ _ x.0 y.0
+-- the fault with a status word, of those that count no tries
+fault_with : ℕ → Fault
+unfolding iff
+fault_with w =
+    iff (eqb w 0x6700) WrongLength (iff (eqb w 0x6882) SecureMessaging (iff (eqb w 0x6884) NoChaining (iff (eqb w 0x6982) NotAllowed
+    (iff (eqb w 0x6983) Blocked (iff (eqb w 0x6985) NothingHeld (iff (eqb w 0x6A80) WrongData (iff (eqb w 0x6A81) NotSupported
+    (iff (eqb w 0x6A82) NotFound (iff (eqb w 0x6A84) NoRoom (iff (eqb w 0x6A86) WrongParameters (iff (eqb w 0x6A88) NoReference
+    (iff (eqb w 0x6D00) UnknownIns (iff (eqb w 0x6E00) UnknownCla JobFailed)))))))))))))
+
+by_word : (f : Fault) → Uncounted f → fault_with (word_of f) ≡ f
+unfolding fault_with
+by_word (NotEqual left) u = absurd u
+by_word WrongLength u = refl
+by_word SecureMessaging u = refl
+by_word NoChaining u = refl
+by_word NotAllowed u = refl
+by_word Blocked u = refl
+by_word NothingHeld u = refl
+by_word WrongData u = refl
+by_word NotSupported u = refl
+by_word NotFound u = refl
+by_word NoRoom u = refl
+by_word WrongParameters u = refl
+by_word NoReference u = refl
+by_word UnknownIns u = refl
+by_word UnknownCla u = refl
+by_word JobFailed u = refl
+
+fault_told : Result Header ℕ → Result Header Fault
+fault_told (Ok h) = Ok h
+fault_told (Err w) = Err (fault_with w)
+
+by_fault : (r : Result Header Fault) → IfErr r Uncounted → fault_told (worded r) ≡ r
+unfolding fault_told
+by_fault (Ok h) u = refl
+by_fault (Err f) u = ap Err (by_word f u)
+
+once_apdu-check : (κs : _) (a : _) (r q : Result Header Fault) (s t : _) → apdu-check.Post κs a r s → apdu-check.Post κs a q t → r ≡ q
+once_apdu-check κs a r q s t x y = sym (by_fault r x.1.1) ∙ ap fault_told (alike _ _ x.0 y.0) ∙ by_fault q y.1.1
 
 -- ---- objects
 

@@ -20,7 +20,7 @@ use Rattle.numbers.proofs.Numbers.{number64, number_same}
 
 -- ---- tests in a row
 
-all_split : (l m : List Bool) → all_true (l ++ m) ≡ (all_true l && all_true m)
+pub all_split : (l m : List Bool) → all_true (l ++ m) ≡ (all_true l && all_true m)
 all_split [] m = refl
 all_split (true ∷ l) m = all_split l m
 all_split (false ∷ l) m = refl
