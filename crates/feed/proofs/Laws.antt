@@ -4,7 +4,7 @@
 --   coming byte_there      what is still to come from a place on, and that the byte there comes first
 --   Goes                   n bytes of the line are kept in t after i turns: what comes still ends the same line of the bytes that came
 --   Counted                a turn takes a byte at least
---   same_start same_then   nothing is kept more; one part of a line, and then another
+--   same_then              one part of a line, and then another
 --   same_on counted_on     one more byte of the line
 --   counted_then           a part of the line takes no turn
 --   goes_lf goes_end       the line's end, and the input's
@@ -55,10 +55,6 @@ Counted (Some l) (Some m) i = i + length m ≤ length l
 
 abbrev pub Goes : List ℕ → Option (List ℕ) → Option (List ℕ) → ℕ → List ℕ → ℕ → Type 0
 Goes s old now n t i = SameLine old now s 0 t n × Counted old now i
-
-pub same_start : (o : Option (List ℕ)) (s : List ℕ) (n : ℕ) → SameLine o o s n s n
-same_start None s n = tt
-same_start (Some l) s n = (refl, refl, omega arith, λ e. (e, refl))
 
 pub same_then : (old now new : Option (List ℕ)) (s t u : List ℕ) (n m k : ℕ) → SameLine old now s n t m → SameLine now new t m u k → SameLine old new s n u k
 same_then None now new s t u n m k g h = tt

@@ -1,6 +1,7 @@
 -- Laws: of a command and of a result, no more than the first 262 bytes matter.
 --
 --   sends-long             two commands that are too long
+--   asked-few              a call, and its first bytes
 --   asked-read             a call, and the bytes of it that are read of a row of digits
 --
 -- Assumes nothing.

@@ -3,6 +3,7 @@
 --   Compares x s b w ..     the rule x does: it has tries (a), the form (ok), and finds the value equal (m)
 --   blocked formless missed_by    the judgement where no tries are left, the form is wrong, or the value is unequal
 --   found                   what the rule says after a value that was found equal
+--   both-not                two tests with one answer are one
 --   change_is reset_is verify_is    the three rules that do
 --   last-length             the last of two values has eight bytes
 --   changed_by reset_by verified_by    the judgement after a value that was found equal

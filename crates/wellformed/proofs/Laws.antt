@@ -1,5 +1,6 @@
 -- Laws: tests in a row, and the mark as a number.
 --
+--   all_split              a row of tests in two parts
 --   in_parts               the size, the header and the records, the slots
 --   mark-number            the mark is compared as a number
 --

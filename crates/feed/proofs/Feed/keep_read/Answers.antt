@@ -17,5 +17,5 @@ loop-next-preserved g c =
       keep_length l.line l.n _ k.result k.new.line (omega arith) k.ensures ∙ l.invariant.1,
       omega (arith, keep_fits l.line l.n _ k.result k.new.line (omega arith) k.ensures),
       same_on _ _ _ _ _ _ _ _ _ _ l.invariant.3 (subst (λ (a : ℕ). TakesByte (coming p f a) (coming p f (l.next + 1)) (Some (get_or f.given l.next 0))) (sym l.invariant.0) b)
-          c.if-byte-eq10.false (omega arith) (omega arith) k.ensures,
+          (omega arith) (omega arith) (omega arith) k.ensures,
     )
