@@ -25,23 +25,23 @@ stretch s at end h k =
     let e : end - at ≡ suc (end - suc at) = omega arith in
     rw add-one (ap (λ (d : List ℕ). take (end - at) d) (drop-cons s at 0 l) ∙ ap (λ (n : ℕ). take n (get_or s at 0 ∷ drop (suc at) s)) e)
 
-pub byte_taken : (s : List ℕ) (at end : ℕ) (p : List ℕ → List ℕ) (old more : Option (List ℕ)) → at < end → end ≤ length s
-    → Keeps old (option_map (λ l. slice_range s at end ++ p l) more)
-    → TakesByte old (option_map (λ l. slice_range s (at + 1) end ++ p l) more) (Some (get_or s at 0))
-byte_taken s at end p None more h k e = tt
-byte_taken s at end p (Some l) None h k e = absurd e
-byte_taken s at end p (Some []) (Some m) h k e = let q = stretch s at end h k in cc
-byte_taken s at end p (Some (b ∷ l)) (Some m) h k e = let q = stretch s at end h k in (cc, cc)
-
--- the bytes that are still to come of a feed whose place is another
-abbrev pub coming : {R : Type 0} → (R → Option (List ℕ)) → Feed R → ℕ → Option (List ℕ)
-coming remaining f at = option_map (λ l. slice_range f.given at f.end ++ (if f.over then [] else l)) (remaining f.from)
-
 taken : (s : List ℕ) (at end : ℕ) (p : List ℕ → List ℕ) (more : Option (List ℕ)) → at < end → end ≤ length s
     → TakesByte (option_map (λ l. slice_range s at end ++ p l) more) (option_map (λ l. slice_range s (at + 1) end ++ p l) more) (Some (get_or s at 0))
 taken s at end p None h k = tt
 taken s at end p (Some l) h k =
     subst (λ (z : List ℕ). TakesByte (Some (z ++ p l)) (Some (slice_range s (at + 1) end ++ p l)) (Some (get_or s at 0))) (sym (stretch s at end h k)) (refl, refl)
+
+pub byte_taken : (s : List ℕ) (at end : ℕ) (p : List ℕ → List ℕ) (old more : Option (List ℕ)) → at < end → end ≤ length s
+    → Keeps old (option_map (λ l. slice_range s at end ++ p l) more)
+    → TakesByte old (option_map (λ l. slice_range s (at + 1) end ++ p l) more) (Some (get_or s at 0))
+byte_taken s at end p None more h k e = tt
+byte_taken s at end p (Some l) None h k e = absurd e
+byte_taken s at end p (Some l) (Some m) h k e =
+    subst (λ (z : List ℕ). TakesByte (Some z) (Some (slice_range s (at + 1) end ++ p m)) (Some (get_or s at 0))) e (taken s at end p (Some m) h k)
+
+-- the bytes that are still to come of a feed whose place is another
+abbrev pub coming : {R : Type 0} → (R → Option (List ℕ)) → Feed R → ℕ → Option (List ℕ)
+coming remaining f at = option_map (λ l. slice_range f.given at f.end ++ (if f.over then [] else l)) (remaining f.from)
 
 pub byte_there : {R : Type 0} (remaining : R → Option (List ℕ)) (f : Feed R) (at : ℕ) → at < f.end → f.end ≤ length f.given
     → TakesByte (coming remaining f at) (coming remaining f (at + 1)) (Some (get_or f.given at 0))
